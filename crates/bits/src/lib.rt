@@ -1,0 +1,2 @@
+// Vocabulary and laws that every layer above shares: the bits of a number, ASCII text, and rules of all
+// numbers below a bound that one computed test proves. Nothing here runs; specs/ and proofs/ hold it.

@@ -1,0 +1,70 @@
+-- The checksum of document 01, "Commands", CalcCRC: two polynomials, least bit first, and the mode bits of ChannelRedundancy (22h).
+-- The CRC register holds what has been absorbed; what is shown or sent of it goes by the mode.
+-- Assumes nothing.
+use Prim.Native.Nat.{ℕ, zero, suc, _+_, _-_, _*_, _/_, _%_, _^_}
+use mathlib.Core.Bool.{Bool, cond}
+use mathlib.Core.List.{List, [], _∷_}
+use lib.Bits.{bitXor}
+use lib.Dec.{eqb}
+use Rattle.bits.specs.Bits.{bitSet}
+
+-- The taps of a polynomial of the given width, from the exponents of its terms below x^width. The register shifts towards its
+-- least bit ("least bit first"), so the term x^e stands at bit width - 1 - e.
+abbrev pub taps : ℕ → List ℕ → ℕ
+taps width [] = 0
+taps width (e ∷ es) = 2 ^ (width - 1 - e) + taps width es
+
+-- "16 bits: polynomial x^16 + x^12 + x^5 + 1".
+abbrev pub taps16 : ℕ
+taps16 = taps 16 (12 ∷ 5 ∷ 0 ∷ [])
+
+-- "CRC8: x^8 + x^4 + x^3 + x^2 + 1".
+abbrev pub taps8 : ℕ
+taps8 = taps 8 (4 ∷ 3 ∷ 2 ∷ 0 ∷ [])
+
+-- The register after one bit: the least bit falls out, and where it was 1 the taps are added, bit by bit.
+unfoldable pub afterBit : ℕ → ℕ → ℕ
+afterBit t c = cond (eqb (c % 2) 1) (bitXor (c / 2) t) (c / 2)
+
+-- The register after n bits.
+unfoldable pub afterBits : ℕ → ℕ → ℕ → ℕ
+afterBits t zero c = c
+afterBits t (suc n) c = afterBits t n (afterBit t c)
+
+-- The register after a byte: the byte is added to its low eight bits, and eight bits fall out.
+unfoldable pub afterByte : ℕ → ℕ → ℕ → ℕ
+afterByte t c b = afterBits t 8 (bitXor c b)
+
+-- The register after a list of bytes, in order.
+unfoldable pub afterBytes : ℕ → ℕ → List ℕ → ℕ
+afterBytes t c [] = c
+afterBytes t c (b ∷ bs) = afterBytes t (afterByte t c b) bs
+
+-- ChannelRedundancy bit 4, CRC8, and bit 5, CRC3309.
+abbrev pub CRC8 : ℕ → Bool
+CRC8 redundancy = bitSet redundancy 4
+
+abbrev pub CRC3309 : ℕ → Bool
+CRC3309 redundancy = bitSet redundancy 5
+
+abbrev pub tapsOf : ℕ → ℕ
+tapsOf redundancy = cond (CRC8 redundancy) taps8 taps16
+
+-- The register at the start: CRCPresetLSB (23h) and CRCPresetMSB (24h); CRC8 starts "from 23h" alone.
+abbrev pub presetOf : ℕ → ℕ → ℕ → ℕ
+presetOf redundancy lsb msb = cond (CRC8 redundancy) lsb (lsb + 256 * msb)
+
+-- The register after one byte, and after a list of bytes, in the given mode.
+abbrev pub absorbed : ℕ → ℕ → ℕ → ℕ
+absorbed redundancy c b = afterByte (tapsOf redundancy) c b
+
+abbrev pub absorbedAll : ℕ → ℕ → List ℕ → ℕ
+absorbedAll redundancy c bs = afterBytes (tapsOf redundancy) c bs
+
+-- The result that the register stands for: "CRC3309 complements the result"; CRC8 is "never complemented".
+abbrev pub resultOf : ℕ → ℕ → ℕ
+resultOf redundancy c = cond (CRC8 redundancy) c (cond (CRC3309 redundancy) (0xFFFF - c) c)
+
+-- The checksum of a list of bytes: low byte at 0Dh, high byte at 0Eh. With CRC8 the high byte is 0.
+abbrev pub checksum : ℕ → ℕ → ℕ → List ℕ → ℕ
+checksum redundancy lsb msb bs = resultOf redundancy (absorbedAll redundancy (presetOf redundancy lsb msb) bs)

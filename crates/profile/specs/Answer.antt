@@ -1,0 +1,34 @@
+-- What a check answers, document 01, "Refusal numbers": "A refusal answers its number, plus the register address for 10 to 12 and the bit for 10."
+-- Assumes nothing.
+use Prim.Native.Nat.{ℕ}
+use Rattle.profile.specs.declared.Verdict.{Verdict}
+use Rattle.profile.specs.declared.Verdict.the-variants.{Pass, Refused}
+use Rattle.profile.specs.declared.Refusal.{Refusal}
+use Rattle.profile.specs.declared.Refusal.the-variants.{Length, FixedBit, PreScaler, Reload}
+
+pub data Answer : Type 0 where
+  pass : Answer
+  -- the number
+  refuse : ℕ → Answer
+  -- the number and the register address
+  refuse-at : ℕ → ℕ → Answer
+  -- the number, the register address and the bit
+  refuse-bit : ℕ → ℕ → ℕ → Answer
+
+-- The first answer that is a refusal.
+abbrev pub orElse : Answer → Answer → Answer
+orElse pass a = a
+orElse (refuse n) a = refuse n
+orElse (refuse-at n r) a = refuse-at n r
+orElse (refuse-bit n r b) a = refuse-bit n r b
+
+-- Document 01's number and values for each case of the program's enums.
+abbrev pub refusalAnswer : Refusal → Answer
+refusalAnswer Length = refuse 9
+refusalAnswer (FixedBit register bit) = refuse-bit 10 register bit
+refusalAnswer (PreScaler register) = refuse-at 11 register
+refusalAnswer (Reload register) = refuse-at 12 register
+
+abbrev pub answerOf : Verdict → Answer
+answerOf Pass = pass
+answerOf (Refused refusal) = refusalAnswer refusal

@@ -1,0 +1,60 @@
+-- The profile check, document 01, "Profiles" and the refusal numbers 9 to 12: one walk by register address, "9 first, then the lowest
+-- register address, and at one address 10 before 11 or 12". The table of fixed bits is a parameter.
+-- Assumes nothing.
+use Prim.Native.Nat.{ℕ, zero, suc, _+_, _-_, _%_}
+use mathlib.Core.Bool.{Bool, _&&_, _||_, not, cond}
+use mathlib.Core.List.{List}
+use lib.Dec.{eqb, ltb}
+use lib.ListN.{length, getD}
+use Rattle.bits.specs.Bits.{bit, bitSet}
+use Rattle.profile.specs.Answer.{Answer, pass, refuse, refuse-at, refuse-bit, orElse}
+use Rattle.profile.specs.FixedBits.{fixed}
+use Rattle.profile.specs.declared.FixedBits.{FixedBits}
+
+-- The profile's byte for a register, and the table's entry for it. The first of both is for 10h.
+abbrev pub byteFor : List ℕ → ℕ → ℕ
+byteFor profile register = getD profile (register - 0x10) 0
+
+abbrev pub entryFor : List FixedBits → ℕ → FixedBits
+entryFor table register = getD table (register - 0x10) (fixed 0x00 0x00)
+
+-- The first refusal at the numbers from, from + 1, .. of which there are n; pass where there is none.
+unfoldable pub firstRefusal : (ℕ → Answer) → ℕ → ℕ → Answer
+firstRefusal judge zero from = pass
+firstRefusal judge (suc n) from = orElse (judge from) (firstRefusal judge n (from + 1))
+
+-- 10: a fixed bit differs. It "names .. its lowest differing bit".
+abbrev pub differsAt : FixedBits → ℕ → ℕ → Bool
+differsAt entry byte k = bitSet (entry .mask) k && not (eqb (bit byte k) (bit (entry .value) k))
+
+abbrev pub bitJudged : List FixedBits → List ℕ → ℕ → ℕ → Answer
+bitJudged table profile register k = cond (differsAt (entryFor table register) (byteFor profile register) k) (refuse-bit 10 register k) pass
+
+abbrev pub fixedBitsJudged : List FixedBits → List ℕ → ℕ → Answer
+fixedBitsJudged table profile register = firstRefusal (bitJudged table profile register) 8 0
+
+-- 11: TPreScaler (TimerClock, 2Ah, bits 4-0) above 21.
+abbrev pub prescalerRefused : ℕ → ℕ → Bool
+prescalerRefused register clock = eqb register 0x2A && ltb 21 (clock % 32)
+
+-- 12: TimerReload (2Ch) 0 while TStartTxBegin or TStartTxEnd (TimerControl, 2Bh, bits 0 and 1) is set; "named at 2Ch".
+abbrev pub reloadRefused : ℕ → ℕ → ℕ → Bool
+reloadRefused register control reload = eqb register 0x2C && (eqb reload 0 && (bitSet control 0 || bitSet control 1))
+
+abbrev pub timerJudged : List ℕ → ℕ → Answer
+timerJudged profile register =
+    cond (prescalerRefused register (byteFor profile 0x2A)) (refuse-at 11 register)
+    (cond (reloadRefused register (byteFor profile 0x2B) (byteFor profile 0x2C)) (refuse-at 12 register)
+    pass)
+
+-- All that is judged at one address, in its order.
+abbrev pub registerJudged : List FixedBits → List ℕ → ℕ → Answer
+registerJudged table profile register =
+    orElse (fixedBitsJudged table profile register) (timerJudged profile register)
+
+-- The check of any bytes.
+unfoldable pub judged : List FixedBits → List ℕ → Answer
+judged table profile =
+    cond (eqb (length profile) 32)
+    (firstRefusal (registerJudged table profile) 32 0x10)
+    (refuse 9)

@@ -1,0 +1,149 @@
+// The profile check: thirty-two bytes for registers 10h to 2Fh pass, or are refused with document 01's number.
+ghost use mathlib.Core.Path.{_≡_};
+ghost use Prim.Native.Nat.{_<_};
+ghost use Rattle.profile.specs.Answer.{answerOf};
+ghost use lib.ListN.{getD};
+ghost use Rattle.profile.specs.FixedBits.{fixed, fixedBits};
+ghost use Rattle.profile.specs.Check.{differsAt, prescalerRefused, reloadRefused, judged};
+
+// The bits of one register that a profile must leave at a value.
+pub struct FixedBits {
+    pub mask: u8,
+    pub value: u8,
+}
+
+// Why a profile is refused, with the address of the register where one is named.
+pub enum Refusal {
+    // 9: the profile is not 32 bytes.
+    Length,
+    // 10: a fixed bit differs.
+    FixedBit { register: u8, bit: u8 },
+    // 11: TPreScaler is above 21.
+    PreScaler { register: u8 },
+    // 12: TimerReload is 0 while a TStartTx bit is set.
+    Reload { register: u8 },
+}
+
+pub enum Verdict {
+    Pass,
+    Refused(Refusal),
+}
+
+// The fixed bits of the MFRC531, by position: the entry at 0 is for register 10h. specs/FixedBits.antt cites the data sheet for each.
+const FIXED_BITS: [FixedBits; 32] = [
+    FixedBits { mask: 0x00, value: 0x00 }, // 10h Page
+    FixedBits { mask: 0x80, value: 0x00 }, // 11h TxControl
+    FixedBits { mask: 0xC0, value: 0x00 }, // 12h CwConductance
+    FixedBits { mask: 0xC0, value: 0x00 }, // 13h ModConductance
+    FixedBits { mask: 0xC0, value: 0x00 }, // 14h CoderControl
+    FixedBits { mask: 0x00, value: 0x00 }, // 15h ModWidth
+    FixedBits { mask: 0x00, value: 0x00 }, // 16h PreSet16
+    FixedBits { mask: 0x00, value: 0x00 }, // 17h TypeBFraming
+    FixedBits { mask: 0x00, value: 0x00 }, // 18h Page
+    FixedBits { mask: 0x00, value: 0x00 }, // 19h RxControl1
+    FixedBits { mask: 0x86, value: 0x00 }, // 1Ah DecoderControl
+    FixedBits { mask: 0x00, value: 0x00 }, // 1Bh BitPhase
+    FixedBits { mask: 0x00, value: 0x00 }, // 1Ch RxThreshold
+    FixedBits { mask: 0x00, value: 0x00 }, // 1Dh BPSKDemControl
+    FixedBits { mask: 0x3C, value: 0x00 }, // 1Eh RxControl2
+    FixedBits { mask: 0x20, value: 0x00 }, // 1Fh ClockQControl
+    FixedBits { mask: 0x00, value: 0x00 }, // 20h Page
+    FixedBits { mask: 0x00, value: 0x00 }, // 21h RxWait
+    FixedBits { mask: 0xC0, value: 0x00 }, // 22h ChannelRedundancy
+    FixedBits { mask: 0x00, value: 0x00 }, // 23h CRCPresetLSB
+    FixedBits { mask: 0x00, value: 0x00 }, // 24h CRCPresetMSB
+    FixedBits { mask: 0xFF, value: 0x00 }, // 25h PreSet25
+    FixedBits { mask: 0xF8, value: 0x00 }, // 26h MFOUTSelect
+    FixedBits { mask: 0x00, value: 0x00 }, // 27h PreSet27
+    FixedBits { mask: 0x00, value: 0x00 }, // 28h Page
+    FixedBits { mask: 0xC0, value: 0x00 }, // 29h FIFOLevel
+    FixedBits { mask: 0xC0, value: 0x00 }, // 2Ah TimerClock
+    FixedBits { mask: 0xF0, value: 0x00 }, // 2Bh TimerControl
+    FixedBits { mask: 0x00, value: 0x00 }, // 2Ch TimerReload
+    FixedBits { mask: 0xFC, value: 0x00 }, // 2Dh IRQPinConfig
+    FixedBits { mask: 0x00, value: 0x00 }, // 2Eh PreSet2E
+    FixedBits { mask: 0x00, value: 0x00 }, // 2Fh PreSet2F
+];
+
+// The entry for a position.
+fn fixed_bits(position: usize) -> FixedBits
+    requires { ⌜ position < 32 ⌝ }
+    ensures { λ r. ⌜ r ≡ getD fixedBits position (fixed 0x00 0x00) ⌝ }
+{
+    FIXED_BITS[position]
+}
+
+// Bit `bit` is fixed, and the byte has it at the other value.
+fn differs(fixed: FixedBits, byte: u8, bit: u8) -> bool
+    requires { ⌜ bit < 8 ⌝ }
+    ensures { λ r. ⌜ r ≡ differsAt fixed byte bit ⌝ }
+{
+    if (fixed.mask >> bit) % 2 == 1 {
+        (byte >> bit) % 2 != (fixed.value >> bit) % 2
+    } else {
+        false
+    }
+}
+
+// At TimerClock's address: the prescaler is above 21.
+fn prescaler_refused(register: u8, clock: u8) -> bool
+    ensures { λ r. ⌜ r ≡ prescalerRefused register clock ⌝ }
+{
+    if register == 0x2A {
+        21 < clock % 32
+    } else {
+        false
+    }
+}
+
+// At TimerReload's address: the reload value is 0 while TStartTxBegin or TStartTxEnd is set.
+fn reload_refused(register: u8, control: u8, reload: u8) -> bool
+    ensures { λ r. ⌜ r ≡ reloadRefused register control reload ⌝ }
+{
+    if register != 0x2C {
+        return false;
+    }
+    if reload != 0 {
+        return false;
+    }
+    if control % 2 == 1 {
+        return true;
+    }
+    control / 2 % 2 == 1
+}
+
+// The verdict on any bytes.
+pub fn check(profile: &[u8]) -> Verdict
+    ensures { λ r. ⌜ answerOf r ≡ judged fixedBits (now (profile .entry)) ⌝ }
+{
+    if profile.len() != 32 {
+        return Verdict::Refused(Refusal::Length);
+    }
+    let clock = profile[0x2A - 0x10];
+    let control = profile[0x2B - 0x10];
+    let reload = profile[0x2C - 0x10];
+    let mut verdict = Verdict::Pass;
+    'registers: for position in 0..32 {
+        let register = (0x10 + position) as u8;
+        let fixed = fixed_bits(position);
+        let byte = profile[position];
+        for bit in 0..8 {
+            if differs(fixed, byte, bit) {
+                verdict = Verdict::Refused(Refusal::FixedBit {
+                    register: register,
+                    bit: bit,
+                });
+                break 'registers;
+            }
+        }
+        if prescaler_refused(register, clock) {
+            verdict = Verdict::Refused(Refusal::PreScaler { register: register });
+            break 'registers;
+        }
+        if reload_refused(register, control, reload) {
+            verdict = Verdict::Refused(Refusal::Reload { register: register });
+            break 'registers;
+        }
+    }
+    verdict
+}

@@ -7,7 +7,10 @@ use native.Mathlib.Numerals.{add-one}
 use native.Mathlib.Omega.{arith}
 use lib.ListN.{length, getD, set, take, drop, length-append, length-drop}
 use lib.Seq.{drop-cons, set-at, take-suc}
-use Rattle.verdict_line.specs.Line.{Written, Adds}
+use mathlib.Core.Bool.{Bool, true, false, cond}
+use lib.Dec.{ltb}
+use Rattle.profile.specs.Answer.{Answer}
+use Rattle.verdict_line.specs.Line.{Written, Adds, LineMeets, lineOf}
 
 -- A buffer as it was, with no text in it.
 pub nothing-written : (line : List ℕ) → Written line [] line 0
@@ -47,3 +50,13 @@ add-next piece e m x at i h first then before text w =
 -- The same text, as another term.
 pub as-text : {a b e x : List ℕ} {at next : ℕ} → a ≡ b → Adds a e at x next → Adds b e at x next
 as-text {a} {b} {e} {x} {at} {next} is adds before text w = subst (λ (l : List ℕ). Written before (text ++ l) x next) is (adds before text w)
+
+-- The line stands within the buffer.
+pub line-within : {a : Answer} {entry exit : List ℕ} {r : ℕ} → LineMeets a entry exit r → r ≤ length exit
+line-within {a} {entry} {exit} {r} meets = go (ltb (length entry) 32) (meets .count) (meets .bytes)
+  where
+    go : (short : Bool) → r ≡ cond short 0 (length (lineOf a)) → exit ≡ cond short entry (lineOf a ++ drop (length (lineOf a)) entry) → r ≤ length exit
+    go true none same = omega arith
+    go false count bytes =
+        let sizes : length exit ≡ length (lineOf a) + length (drop (length (lineOf a)) entry) = ap length bytes ∙ length-append (lineOf a) (drop (length (lineOf a)) entry) in
+        omega arith

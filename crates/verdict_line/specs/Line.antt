@@ -30,10 +30,9 @@ lineOf a = answerText a ++ ascii "\n"
 
 -- A buffer of 32 bytes or more begins with the line, whose length is answered, and its later bytes are as they were; a shorter one is as it
 -- was, and 0 is answered.
-abbrev pub LineMeets : Answer → List ℕ → List ℕ → ℕ → Type 0
-LineMeets a entry exit r =
-    (r ≡ cond (ltb (length entry) 32) 0 (length (lineOf a)))
-    × (exit ≡ cond (ltb (length entry) 32) entry (lineOf a ++ drop (length (lineOf a)) entry))
+pub record LineMeets (a : Answer) (entry exit : List ℕ) (r : ℕ) : Type 0 where
+  pub count : r ≡ cond (ltb (length entry) 32) 0 (length (lineOf a))
+  pub bytes : exit ≡ cond (ltb (length entry) 32) entry (lineOf a ++ drop (length (lineOf a)) entry)
 
 -- A buffer that was `before` now begins with `text`, which ends at `at`; its later bytes are as they were.
 pub record Written (before text after : List ℕ) (at : ℕ) : Type 0 where

@@ -12,7 +12,7 @@ use Rattle.verdict_line.proofs.write_line.Statement.{statement}
 use Rattle.verdict_line.proofs.write_line.Tie as tie
 
 returns : tie.Need-returns
-returns c = (simp (lt-ltb _ _ (c .if1 .taken)), simp (lt-ltb _ _ (c .if1 .taken)))
+returns c = record { count = simp (lt-ltb _ _ (c .if1 .taken)); bytes = simp (lt-ltb _ _ (c .if1 .taken)) }
 
 put-verdict-requires : tie.Need-put-verdict-requires
 put-verdict-requires c κs = search needs
@@ -34,8 +34,9 @@ returns-2 c =
     let long = text .before .before in
     let a = long .before .before .args in
     let all = add-both (text .put-verdict .ensures .1) (newline .put .ensures .1) (a .line .now) [] (nothing-written (a .line .now)) in
-    (simp (le-ltb _ _ (long .if1 .left)) (all .end)
-    , simp (le-ltb _ _ (long .if1 .left)) (all .bytes ∙ ap (λ (n : ℕ). lineOf (answerOf (a .verdict)) ++ drop n (a .line .now)) (all .end)))
+    record {
+      count = simp (le-ltb _ _ (long .if1 .left)) (all .end);
+      bytes = simp (le-ltb _ _ (long .if1 .left)) (all .bytes ∙ ap (λ (n : ℕ). lineOf (answerOf (a .verdict)) ++ drop n (a .line .now)) (all .end)) }
 
 pub write-line-spec : {M : Type 1} → statement M
 write-line-spec =

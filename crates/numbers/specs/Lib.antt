@@ -1,0 +1,2 @@
+pub mod Shipped
+pub mod Numbers

@@ -1,0 +1,17 @@
+-- The start-up profile that the MFRC531 is shipped with: EEPROM bytes 010h-02Fh, data sheet 005, Table 15.
+-- Assumes nothing.
+use Prim.Native.Nat.{ℕ, _-_}
+use mathlib.Core.List.{List, [], _∷_}
+use lib.ListN.{set}
+
+abbrev pub shipped : List ℕ
+shipped =
+    0x00 ∷ 0x58 ∷ 0x3F ∷ 0x3F ∷ 0x19 ∷ 0x13 ∷ 0x3F ∷ 0x3B
+    ∷ 0x00 ∷ 0x73 ∷ 0x08 ∷ 0xAD ∷ 0xFF ∷ 0x1E ∷ 0x41 ∷ 0x00
+    ∷ 0x00 ∷ 0x06 ∷ 0x03 ∷ 0x63 ∷ 0x63 ∷ 0x00 ∷ 0x00 ∷ 0x00
+    ∷ 0x00 ∷ 0x08 ∷ 0x07 ∷ 0x06 ∷ 0x0A ∷ 0x02 ∷ 0x00 ∷ 0x00
+    ∷ []
+
+-- The shipped profile with another byte for one register.
+abbrev pub shippedWith : ℕ → ℕ → List ℕ
+shippedWith register byte = set shipped (register - 0x10) byte

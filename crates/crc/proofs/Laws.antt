@@ -49,6 +49,7 @@ module _ (t k : ℕ) (small : t < 2 ^ k) where
     where
       half : c / 2 < 2 ^ k
       half = omega arith
+
       go : (odd : Bool) → cond odd (bitXor (c / 2) t) (c / 2) < 2 ^ k
       go true = xor-lt k (c / 2) t half small
       go false = half

@@ -15,7 +15,11 @@ const TAPS_8: u16 = 0xB8;
 fn taps_of(redundancy: u8) -> u16
     ensures { λ r. ⌜ r ≡ tapsOf redundancy ⌝ }
 {
-    if redundancy / 16 % 2 == 1 { TAPS_8 } else { TAPS_16 }
+    if redundancy / 16 % 2 == 1 {
+        TAPS_8
+    } else {
+        TAPS_16
+    }
 }
 
 fn after_bit(taps: u16, register: u16) -> u16
@@ -89,5 +93,8 @@ pub fn result(redundancy: u8, register: u16) -> u16
 pub fn checksum(redundancy: u8, lsb: u8, msb: u8, bytes: &[u8]) -> u16
     ensures { λ r. ⌜ r ≡ Checksum·checksum redundancy lsb msb (now (bytes .entry)) ⌝ }
 {
-    result(redundancy, absorb_all(redundancy, preset(redundancy, lsb, msb), bytes))
+    result(
+        redundancy,
+        absorb_all(redundancy, preset(redundancy, lsb, msb), bytes),
+    )
 }

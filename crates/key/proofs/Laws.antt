@@ -102,11 +102,12 @@ read-next i bs bytes h twelve r good =
       whole = length-set bytes i _ ∙ r .whole;
       holds = sym (ap formatHolds next ∙ both-hold (paired (getD bs (2 * i) 0)) (paired (getD bs (2 * i + 1) 0)) (formatHolds (drop (2 * (i + 1)) bs)) good) ∙ r .holds;
       so-far =
-        ap (λ (n : ℕ). take n (set bytes i v) ++ left) (add-one i)
-        ∙ ap (λ (l : List ℕ). l ++ left) (take-suc-set bytes i v room)
-        ∙ append-assoc (take i bytes) (v ∷ []) left
-        ∙ sym (ap (λ (l : List ℕ). take i bytes ++ keyOf l) next)
-        ∙ r .so-far }
+          ap (λ (n : ℕ). take n (set bytes i v) ++ left) (add-one i)
+          ∙ ap (λ (l : List ℕ). l ++ left) (take-suc-set bytes i v room)
+          ∙ append-assoc (take i bytes) (v ∷ []) left
+          ∙ sym (ap (λ (l : List ℕ). take i bytes ++ keyOf l) next)
+          ∙ r .so-far;
+    }
 
 -- A pair that does not hold breaks the format.
 pub read-bad : (i : ℕ) (bs bytes : List ℕ) → i < 6 → length bs ≡ 12 → ReadTo i bs bytes → (paired (getD bs (2 * i) 0) && paired (getD bs (2 * i + 1) 0)) ≡ false →
@@ -119,6 +120,7 @@ read-bad i bs bytes h twelve r bad =
 pub read-all : (bs bytes : List ℕ) → length bs ≡ 12 → ReadTo 6 bs bytes → (formatHolds bs ≡ true) × (keyOf bs ≡ bytes)
 unfolding formatHolds keyOf
 read-all bs bytes twelve r =
-    let none : drop 12 bs ≡ [] = drop-of-length-le bs {i = 12} (omega arith) in
-    (sym (r .holds) ∙ ap formatHolds none
-    , sym (r .so-far) ∙ ap (λ (l : List ℕ). take 6 bytes ++ keyOf l) none ∙ append-nil (take 6 bytes) ∙ take-all 6 bytes (omega (arith, r .whole)))
+    let none : drop 12 bs ≡ [] = drop-of-length-le bs {i = 12} (omega arith) in (
+      sym (r .holds) ∙ ap formatHolds none,
+      sym (r .so-far) ∙ ap (λ (l : List ℕ). take 6 bytes ++ keyOf l) none ∙ append-nil (take 6 bytes) ∙ take-all 6 bytes (omega (arith, r .whole)),
+    )

@@ -19,4 +19,5 @@ numbers-met =
       shipped-passes = refl;
       prescaler-21 = refl;
       prescaler-22 = refl;
-      prescaler-24 = refl }
+      prescaler-24 = refl;
+    }

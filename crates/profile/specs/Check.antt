@@ -25,7 +25,7 @@ firstRefusal judge (suc n) from = orElse (judge from) (firstRefusal judge n (fro
 
 -- 10: a fixed bit differs. It "names .. its lowest differing bit".
 abbrev pub differsAt : FixedBits → ℕ → ℕ → Bool
-differsAt entry byte k = bitSet (entry .mask) k && not (eqb (bit byte k) (bit (entry .value) k))
+differsAt entry byte k = bitSet (entry .0) k && not (eqb (bit byte k) (bit (entry .1) k))
 
 abbrev pub bitJudged : List FixedBits → List ℕ → ℕ → ℕ → Answer
 bitJudged table profile register k = cond (differsAt (entryFor table register) (byteFor profile register) k) (refuse-bit 10 register k) pass

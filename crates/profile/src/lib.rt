@@ -6,11 +6,8 @@ ghost use lib.ListN.{getD};
 ghost use Rattle.profile.specs.FixedBits.{fixed, fixedBits};
 ghost use Rattle.profile.specs.Check.{differsAt, prescalerRefused, reloadRefused, judged};
 
-// The bits of one register that a profile must leave at a value.
-pub struct FixedBits {
-    pub mask: u8,
-    pub value: u8,
-}
+// The fixed bits of one register: a mask of them, and the value that they have.
+pub struct FixedBits(pub u8, pub u8);
 
 // Why a profile is refused, with the address of the register where one is named.
 pub enum Refusal {
@@ -31,38 +28,38 @@ pub enum Verdict {
 
 // The fixed bits of the MFRC531, by position: the entry at 0 is for register 10h. specs/FixedBits.antt cites the data sheet for each.
 const FIXED_BITS: [FixedBits; 32] = [
-    FixedBits { mask: 0x00, value: 0x00 }, // 10h Page
-    FixedBits { mask: 0x80, value: 0x00 }, // 11h TxControl
-    FixedBits { mask: 0xC0, value: 0x00 }, // 12h CwConductance
-    FixedBits { mask: 0xC0, value: 0x00 }, // 13h ModConductance
-    FixedBits { mask: 0xC0, value: 0x00 }, // 14h CoderControl
-    FixedBits { mask: 0x00, value: 0x00 }, // 15h ModWidth
-    FixedBits { mask: 0x00, value: 0x00 }, // 16h PreSet16
-    FixedBits { mask: 0x00, value: 0x00 }, // 17h TypeBFraming
-    FixedBits { mask: 0x00, value: 0x00 }, // 18h Page
-    FixedBits { mask: 0x00, value: 0x00 }, // 19h RxControl1
-    FixedBits { mask: 0x86, value: 0x00 }, // 1Ah DecoderControl
-    FixedBits { mask: 0x00, value: 0x00 }, // 1Bh BitPhase
-    FixedBits { mask: 0x00, value: 0x00 }, // 1Ch RxThreshold
-    FixedBits { mask: 0x00, value: 0x00 }, // 1Dh BPSKDemControl
-    FixedBits { mask: 0x3C, value: 0x00 }, // 1Eh RxControl2
-    FixedBits { mask: 0x20, value: 0x00 }, // 1Fh ClockQControl
-    FixedBits { mask: 0x00, value: 0x00 }, // 20h Page
-    FixedBits { mask: 0x00, value: 0x00 }, // 21h RxWait
-    FixedBits { mask: 0xC0, value: 0x00 }, // 22h ChannelRedundancy
-    FixedBits { mask: 0x00, value: 0x00 }, // 23h CRCPresetLSB
-    FixedBits { mask: 0x00, value: 0x00 }, // 24h CRCPresetMSB
-    FixedBits { mask: 0xFF, value: 0x00 }, // 25h PreSet25
-    FixedBits { mask: 0xF8, value: 0x00 }, // 26h MFOUTSelect
-    FixedBits { mask: 0x00, value: 0x00 }, // 27h PreSet27
-    FixedBits { mask: 0x00, value: 0x00 }, // 28h Page
-    FixedBits { mask: 0xC0, value: 0x00 }, // 29h FIFOLevel
-    FixedBits { mask: 0xC0, value: 0x00 }, // 2Ah TimerClock
-    FixedBits { mask: 0xF0, value: 0x00 }, // 2Bh TimerControl
-    FixedBits { mask: 0x00, value: 0x00 }, // 2Ch TimerReload
-    FixedBits { mask: 0xFC, value: 0x00 }, // 2Dh IRQPinConfig
-    FixedBits { mask: 0x00, value: 0x00 }, // 2Eh PreSet2E
-    FixedBits { mask: 0x00, value: 0x00 }, // 2Fh PreSet2F
+    FixedBits(0x00, 0x00), // 10h Page
+    FixedBits(0x80, 0x00), // 11h TxControl
+    FixedBits(0xC0, 0x00), // 12h CwConductance
+    FixedBits(0xC0, 0x00), // 13h ModConductance
+    FixedBits(0xC0, 0x00), // 14h CoderControl
+    FixedBits(0x00, 0x00), // 15h ModWidth
+    FixedBits(0x00, 0x00), // 16h PreSet16
+    FixedBits(0x00, 0x00), // 17h TypeBFraming
+    FixedBits(0x00, 0x00), // 18h Page
+    FixedBits(0x00, 0x00), // 19h RxControl1
+    FixedBits(0x86, 0x00), // 1Ah DecoderControl
+    FixedBits(0x00, 0x00), // 1Bh BitPhase
+    FixedBits(0x00, 0x00), // 1Ch RxThreshold
+    FixedBits(0x00, 0x00), // 1Dh BPSKDemControl
+    FixedBits(0x3C, 0x00), // 1Eh RxControl2
+    FixedBits(0x20, 0x00), // 1Fh ClockQControl
+    FixedBits(0x00, 0x00), // 20h Page
+    FixedBits(0x00, 0x00), // 21h RxWait
+    FixedBits(0xC0, 0x00), // 22h ChannelRedundancy
+    FixedBits(0x00, 0x00), // 23h CRCPresetLSB
+    FixedBits(0x00, 0x00), // 24h CRCPresetMSB
+    FixedBits(0xFF, 0x00), // 25h PreSet25
+    FixedBits(0xF8, 0x00), // 26h MFOUTSelect
+    FixedBits(0x00, 0x00), // 27h PreSet27
+    FixedBits(0x00, 0x00), // 28h Page
+    FixedBits(0xC0, 0x00), // 29h FIFOLevel
+    FixedBits(0xC0, 0x00), // 2Ah TimerClock
+    FixedBits(0xF0, 0x00), // 2Bh TimerControl
+    FixedBits(0x00, 0x00), // 2Ch TimerReload
+    FixedBits(0xFC, 0x00), // 2Dh IRQPinConfig
+    FixedBits(0x00, 0x00), // 2Eh PreSet2E
+    FixedBits(0x00, 0x00), // 2Fh PreSet2F
 ];
 
 // The entry for a position.
@@ -78,8 +75,10 @@ fn differs(fixed: FixedBits, byte: u8, bit: u8) -> bool
     requires { ⌜ bit < 8 ⌝ }
     ensures { λ r. ⌜ r ≡ differsAt fixed byte bit ⌝ }
 {
-    if (fixed.mask >> bit) % 2 == 1 {
-        (byte >> bit) % 2 != (fixed.value >> bit) % 2
+    let mask = fixed.0;
+    let value = fixed.1;
+    if (mask >> bit) % 2 == 1 {
+        (byte >> bit) % 2 != (value >> bit) % 2
     } else {
         false
     }

@@ -23,12 +23,13 @@ add-byte line at byte room before text w =
     let within : at < length before = omega (arith, w .end) in
     record {
       bytes =
-        ap (λ (l : List ℕ). set l at byte) (w .bytes)
-        ∙ ap (λ (l : List ℕ). set (text ++ l) at byte) (drop-cons before at 0 within)
-        ∙ set-at text (getD before at 0) (drop (suc at) before) byte at (sym (w .end))
-        ∙ sym (append-assoc text (byte ∷ []) (drop (suc at) before))
-        ∙ ap (λ (n : ℕ). (text ++ (byte ∷ [])) ++ drop n before) (sym (add-one at));
-      end = ap (λ (n : ℕ). n + 1) (w .end) ∙ sym (length-append text (byte ∷ [])) }
+          ap (λ (l : List ℕ). set l at byte) (w .bytes)
+          ∙ ap (λ (l : List ℕ). set (text ++ l) at byte) (drop-cons before at 0 within)
+          ∙ set-at text (getD before at 0) (drop (suc at) before) byte at (sym (w .end))
+          ∙ sym (append-assoc text (byte ∷ []) (drop (suc at) before))
+          ∙ ap (λ (n : ℕ). (text ++ (byte ∷ [])) ++ drop n before) (sym (add-one at));
+      end = ap (λ (n : ℕ). n + 1) (w .end) ∙ sym (length-append text (byte ∷ []));
+    }
 
 -- Nothing is added.
 pub add-none : (line : List ℕ) (at : ℕ) → Adds [] line at line at

@@ -40,11 +40,12 @@ loop-again : tie.Need-loop-again Inv-loop μ-loop
 loop-again c =
     let turn = c .before .before .before in
     let taps = turn .before .taps-of .result in
-    let bytes = turn .before .before .before .args .bytes .now in
-    (search needs
-    , ap (λ (next : ℕ). afterBytes taps next (drop (turn .loop .i + 1) bytes)) (c .after-byte .ensures)
-    ∙ next-byte taps (turn .loop .next) bytes (turn .loop .i) (search needs)
-    ∙ turn .loop .inv .1)
+    let bytes = turn .before .before .before .args .bytes .now in (
+      search needs,
+      ap (λ (next : ℕ). afterBytes taps next (drop (turn .loop .i + 1) bytes)) (c .after-byte .ensures)
+          ∙ next-byte taps (turn .loop .next) bytes (turn .loop .i) (search needs)
+          ∙ turn .loop .inv .1,
+    )
 
 returns : tie.Need-returns Inv-loop μ-loop
 returns c =

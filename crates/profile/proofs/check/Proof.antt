@@ -106,13 +106,14 @@ loop-less c = search needs
 
 loop-again : tie.Need-loop-again Inv-loop μ-loop Inv-registers μ-registers
 loop-again c =
-    let turn = c .before .before .before in
-    (search needs
-    , turn .loop .inv .1
-    , passes (bitJudged fixedBits (profile turn) (register turn)) (omega arith) refl
-      (bit-passes fixedBits (profile turn) (row turn .registers .position) (turn .before .before .fixed-bits .result) (turn .loop .bit)
-      (turn .before .before .fixed-bits .ensures) (sym (c .before .differs .ensures) ∙ c .if2 .left))
-    ∙ turn .loop .inv .2)
+    let turn = c .before .before .before in (
+      search needs,
+      turn .loop .inv .1,
+      passes (bitJudged fixedBits (profile turn) (register turn)) (omega arith) refl
+          (bit-passes fixedBits (profile turn) (row turn .registers .position) (turn .before .before .fixed-bits .result) (turn .loop .bit)
+          (turn .before .before .fixed-bits .ensures) (sym (c .before .differs .ensures) ∙ c .if2 .left))
+          ∙ turn .loop .inv .2,
+    )
 
 prescaler-refused-requires :
     tie.Need-prescaler-refused-requires Inv-loop μ-loop Inv-registers μ-registers
@@ -130,13 +131,14 @@ registers-less c = search needs
 
 registers-again : tie.Need-registers-again Inv-loop μ-loop Inv-registers μ-registers
 registers-again c =
-    let turn = c .before .before .before .before .before in
-    (search needs
-    , turn .loop .inv .1 ∙ row turn .registers .inv .1
-    , passes (registerJudged fixedBits (profile turn)) (omega arith) (omega arith)
-      (by-timer turn (search needs)
-      ∙ simp (sym (c .before .before .before .prescaler-refused .ensures) ∙ c .before .before .if3 .left, sym (c .before .reload-refused .ensures) ∙ c .if4 .left))
-    ∙ row turn .registers .inv .2)
+    let turn = c .before .before .before .before .before in (
+      search needs,
+      turn .loop .inv .1 ∙ row turn .registers .inv .1,
+      passes (registerJudged fixedBits (profile turn)) (omega arith) (omega arith)
+          (by-timer turn (search needs)
+          ∙ simp (sym (c .before .before .before .prescaler-refused .ensures) ∙ c .before .before .if3 .left, sym (c .before .reload-refused .ensures) ∙ c .if4 .left))
+          ∙ row turn .registers .inv .2,
+    )
 
 returns-2 : tie.Need-returns-2 Inv-loop μ-loop Inv-registers μ-registers
 returns-2 c =
@@ -150,11 +152,11 @@ returns-3 : tie.Need-returns-3 Inv-loop μ-loop Inv-registers μ-registers
 returns-3 c =
     let turn = c .before .before .before in
     let bit : fixedBitsJudged fixedBits (profile turn) (register turn) ≡ refuse-bit 10 (register turn) (turn .loop .bit) =
-          sym (turn .loop .inv .2)
-          ∙ stops (bitJudged fixedBits (profile turn) (register turn)) (8 - turn .loop .bit) (turn .loop .bit) _ (omega arith)
-          (bit-refuses fixedBits (profile turn) (row turn .registers .position) (turn .before .before .fixed-bits .result) (turn .loop .bit)
-          (turn .before .before .fixed-bits .ensures) (sym (c .before .differs .ensures) ∙ c .if2 .taken))
-          (λ rest. refl) in
+    sym (turn .loop .inv .2)
+    ∙ stops (bitJudged fixedBits (profile turn) (register turn)) (8 - turn .loop .bit) (turn .loop .bit) _ (omega arith)
+    (bit-refuses fixedBits (profile turn) (row turn .registers .position) (turn .before .before .fixed-bits .result) (turn .loop .bit)
+    (turn .before .before .fixed-bits .ensures) (sym (c .before .differs .ensures) ∙ c .if2 .taken))
+    (λ rest. refl) in
     refused turn _ (search needs) (ap (λ (a : Answer). orElse a (timerJudged (profile turn) (register turn))) bit) (λ rest. refl)
 
 returns-4 : tie.Need-returns-4 Inv-loop μ-loop Inv-registers μ-registers

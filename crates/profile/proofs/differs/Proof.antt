@@ -14,7 +14,7 @@ shr-result-2 : tie.Need-shr-result-2
 shr-result-2 c = search needs
 
 returns : tie.Need-returns
-returns c = simp (eq-eqb _ _ (c .before .if1 .taken))
+returns c = simp (eq-eqb _ _ (c .if1 .taken))
 
 returns-2 : tie.Need-returns-2
 returns-2 c = simp (ne-eqb _ _ (c .if1 .left))

@@ -22,13 +22,21 @@ passes-requires-2 c κs = search needs
 
 returns-4 : tie.Need-returns-4
 returns-4 c =
-    simp (eq-eqb _ _ (c .before .before .before .before .before .if1 .left), eq-eqb _ _ (c .before .before .before .before .if2 .left)
-    , sym (c .before .before .before .passes .ensures) ∙ c .before .before .if3 .left, sym (c .before .passes2 .ensures) ∙ c .if4 .taken)
+    simp (
+      eq-eqb _ _ (c .before .before .before .before .before .if1 .left),
+      eq-eqb _ _ (c .before .before .before .before .if2 .left),
+      sym (c .before .before .before .passes .ensures) ∙ c .before .before .if3 .left,
+      sym (c .before .passes2 .ensures) ∙ c .if4 .taken,
+    )
 
 returns-5 : tie.Need-returns-5
 returns-5 c =
-    simp (eq-eqb _ _ (c .before .before .before .before .before .if1 .left), eq-eqb _ _ (c .before .before .before .before .if2 .left)
-    , sym (c .before .before .before .passes .ensures) ∙ c .before .before .if3 .left, sym (c .before .passes2 .ensures) ∙ c .if4 .left)
+    simp (
+      eq-eqb _ _ (c .before .before .before .before .before .if1 .left),
+      eq-eqb _ _ (c .before .before .before .before .if2 .left),
+      sym (c .before .before .before .passes .ensures) ∙ c .before .before .if3 .left,
+      sym (c .before .passes2 .ensures) ∙ c .if4 .left,
+    )
 
 pub choose-spec : {M : Type 1} → statement M
 choose-spec =

@@ -43,11 +43,12 @@ loop-again : tie.Need-loop-again Inv-loop μ-loop
 loop-again c =
     let call = c .before .before in
     let turn = call .before .before .before .before in
-    let a = turn .before .before .before .args in
-    (search needs
-    , search needs
-    , add-next (a .piece .now) (a .line .now) (turn .loop .line) (call .put-byte .last .0) (a .at) (turn .loop .i) (search needs) (turn .loop .inv .2)
-      (subst (λ (n : ℕ). Adds (getD (a .piece .now) (turn .loop .i) 0 ∷ []) (turn .loop .line) (a .at + turn .loop .i) (call .put-byte .last .0) n) (call .put-byte .ensures .0) (call .put-byte .ensures .1)))
+    let a = turn .before .before .before .args in (
+      search needs,
+      search needs,
+      add-next (a .piece .now) (a .line .now) (turn .loop .line) (call .put-byte .last .0) (a .at) (turn .loop .i) (search needs) (turn .loop .inv .2)
+          (subst (λ (n : ℕ). Adds (getD (a .piece .now) (turn .loop .i) 0 ∷ []) (turn .loop .line) (a .at + turn .loop .i) (call .put-byte .last .0) n) (call .put-byte .ensures .0) (call .put-byte .ensures .1)),
+    )
 
 add-result : tie.Need-add-result Inv-loop μ-loop
 add-result c = search needs

@@ -57,7 +57,7 @@ returns-3 c =
     let hundreds = tens .before .before .before .before in
     let value = hundreds .before .before .before .before .before .args .value in
     let three-digits : decimalByte value ≡ digit (value / 10 / 10) ∷ digit (value / 10 % 10) ∷ digit (value % 10) ∷ [] =
-          simp (le-ltb value 10 (omega arith), le-ltb (value / 10) 10 (omega arith)) in
+    simp (le-ltb value 10 (omega arith), le-ltb (value / 10) 10 (omega arith)) in
     (search needs, as-text (sym three-digits) (add-both (hundreds .put-digit4 .ensures .1) (add-both (tens .put-digit5 .ensures .1) (ones .put-digit6 .ensures .1))))
 
 pub put-decimal-spec : {M : Type 1} → statement M

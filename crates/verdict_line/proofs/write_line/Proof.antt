@@ -36,7 +36,8 @@ returns-2 c =
     let all = add-both (text .put-verdict .ensures .1) (newline .put .ensures .1) (a .line .now) [] (nothing-written (a .line .now)) in
     record {
       count = simp (le-ltb _ _ (long .if1 .left)) (all .end);
-      bytes = simp (le-ltb _ _ (long .if1 .left)) (all .bytes ∙ ap (λ (n : ℕ). lineOf (answerOf (a .verdict)) ++ drop n (a .line .now)) (all .end)) }
+      bytes = simp (le-ltb _ _ (long .if1 .left)) (all .bytes ∙ ap (λ (n : ℕ). lineOf (answerOf (a .verdict)) ++ drop n (a .line .now)) (all .end));
+    }
 
 pub write-line-spec : {M : Type 1} → statement M
 write-line-spec =

@@ -1,9 +1,9 @@
 -- Laws of the choice of profile.
 -- Assumes nothing.
-use mathlib.Core.Path.{_≡_, refl, _∙_}
-use mathlib.Core.Bool.{Bool, true, false}
+use mathlib.Core.Path.{_≡_, refl, ap, _∙_}
+use mathlib.Core.Bool.{Bool, true, false, cond}
 use mathlib.Core.List.{List}
-use Prim.Native.Nat.{ℕ, _≤_}
+use Prim.Native.Nat.{ℕ, _-_, min}
 use native.Mathlib.Omega.{arith}
 use lib.Dec.{eqb}
 use lib.ListN.{length, take, drop, length-take, length-drop}
@@ -11,7 +11,7 @@ use borrow.Author.Tests.{eqb-true}
 use Rattle.profile.specs.Answer.{refusalAnswer}
 use Rattle.profile.specs.declared.Refusal.{Refusal}
 use Rattle.profile.specs.declared.Refusal.the-variants.{Length, FixedBit, PreScaler, Reload}
-use Rattle.safe_start.specs.Choice.{isPass, Chosen, from-user, from-rescue, refused, chosen, partOf}
+use Rattle.safe_start.specs.Choice.{isPass, Chosen, from-user, from-rescue, refused, chosen, startUpProfile, partOf}
 
 -- No refusal of the check is a pass.
 pub refusal-fails : (x : Refusal) → isPass (refusalAnswer x) ≡ false
@@ -34,3 +34,21 @@ user-is-chosen e = let z : _≡_ {A = ℕ} 0 1 = cc in omega arith
 
 pub rescue-is-chosen : from-rescue ≡ refused 2 → ⊥
 rescue-is-chosen e = let z : _≡_ {A = ℕ} 0 1 = cc in omega arith
+
+-- A profile or a refusal: the part that is handed back has 32 bytes or none.
+unfoldable pub hasProfile : Chosen → Bool
+hasProfile from-user = true
+hasProfile from-rescue = true
+hasProfile (refused n) = false
+
+start-up-length : (image : List ℕ) → length image ≡ 512 → length (startUpProfile image) ≡ 32
+start-up-length image whole = length-take 32 (drop 16 image) ∙ ap (min 32) (length-drop 16 image ∙ ap (λ (n : ℕ). n - 16) whole)
+
+pub part-length : (user rescue : List ℕ) → length (partOf (chosen user rescue) user rescue) ≡ cond (hasProfile (chosen user rescue)) 32 0
+unfolding hasProfile
+part-length user rescue = go (chosen user rescue) refl
+  where
+    go : (x : Chosen) → x ≡ chosen user rescue → length (partOf x user rescue) ≡ cond (hasProfile x) 32 0
+    go from-user is = start-up-length user (images-whole user rescue from-user is user-is-chosen .0)
+    go from-rescue is = start-up-length rescue (images-whole user rescue from-rescue is rescue-is-chosen .1)
+    go (refused n) is = refl

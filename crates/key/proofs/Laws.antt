@@ -10,12 +10,8 @@ use lib.Dec.{T, eqb}
 use lib.ListN.{length, take, drop, getD, set, replicate, length-set, drop-of-length-le}
 use lib.Seq.{drop-cons, take-suc-set, take-all}
 use borrow.Author.Tests.{eq-eqb, eqb-true}
+use Rattle.bits.specs.Bits.{Bytes}
 use Rattle.key.specs.Key.{storedNibble, stored, paired, formatHolds, keyOf, emptyKey}
-
--- Every byte of a list is below 256.
-unfoldable pub Bytes : List ℕ → Type 0
-Bytes [] = Unit {0}
-Bytes (b ∷ bs) = (b < 256) × Bytes bs
 
 nibble-paired : (n : ℕ) → n < 16 → paired (storedNibble n) ≡ true
 nibble-paired n h = eq-eqb (storedNibble n) (storedNibble (storedNibble n % 16)) (omega arith)

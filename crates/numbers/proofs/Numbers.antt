@@ -4,10 +4,19 @@ use mathlib.Core.Path.{refl}
 use Rattle.crc.specs.Checksum.{afterBit, afterBits, afterByte, afterBytes}
 use Rattle.key.specs.Key.{stored, formatHolds, keyOf}
 use Rattle.profile.specs.Check.{firstRefusal, judged}
+use Rattle.machine.specs.Fifo.{offered, offeredAll, loAlert, hiAlert, alerted}
+use Rattle.machine.specs.Timer.{timerClock}
+use Rattle.machine.specs.Memory.{storedFrom, overRegisters}
+use Rattle.machine.specs.Commands.{commandWritten, stepped, settled}
+use Rattle.machine.specs.Frames.{sent, received, anyParityWrong, sameBytes}
+use Rattle.machine.specs.Registers.{registerRead, registerWritten}
+use Rattle.machine.specs.WellFormed.{wellFormed}
+use Rattle.machine.specs.Refusals.{allBits, refusal}
+use Rattle.machine.specs.Events.{started, written, readByte, afterRead, clock, clocks, advanced, taken, bufferTaken, delivered, perform, afterCalls}
 use Rattle.numbers.specs.Numbers.{NumbersToMeet}
 
 pub numbers-met : NumbersToMeet
-unfolding afterBit afterBits afterByte afterBytes stored formatHolds keyOf firstRefusal judged
+unfolding afterBit afterBits afterByte afterBytes stored formatHolds keyOf firstRefusal judged offered offeredAll loAlert hiAlert alerted timerClock storedFrom overRegisters commandWritten stepped settled sent received anyParityWrong sameBytes registerRead registerWritten wellFormed allBits refusal started written readByte afterRead clock clocks advanced taken bufferTaken delivered perform afterCalls
 numbers-met =
     record {
       crc-6363-of-00-00 = refl;
@@ -20,4 +29,18 @@ numbers-met =
       prescaler-21 = refl;
       prescaler-22 = refl;
       prescaler-24 = refl;
+      sixty-four-held = refl;
+      no-overflow-at-64 = refl;
+      overflow-at-65 = refl;
+      lo-alert-at-8 = refl;
+      lo-alert-not-at-9 = refl;
+      hi-alert-at-56 = refl;
+      hi-alert-not-at-55 = refl;
+      load-config-060 = refl;
+      load-config-061 = refl;
+      read-e2-count-1 = refl;
+      read-e2-count-1-flag = refl;
+      read-e2-count-2 = refl;
+      timer-not-at-5 = refl;
+      timer-at-6 = refl;
     }

@@ -1,15 +1,20 @@
 -- Document 01, "Numbers to meet": those marked *, as one list under one statement. The list grows with the chip.
 -- Assumes nothing.
 use Prim.Native.Nat.{ℕ, _/_, _%_}
-use mathlib.Core.Bool.{true}
-use mathlib.Core.List.{List, [], _∷_}
+use mathlib.Core.Bool.{true, false}
+use mathlib.Core.List.{List, [], _∷_, map}
 use mathlib.Core.Path.{_≡_}
 use Rattle.crc.specs.Checksum.{checksum}
 use Rattle.key.specs.Key.{stored, formatHolds, keyOf}
 use Rattle.profile.specs.Answer.{pass, refuse-at}
 use Rattle.profile.specs.FixedBits.{fixedBits}
 use Rattle.profile.specs.Check.{judged}
-use Rattle.numbers.specs.Shipped.{shipped, shippedWith}
+use lib.ListN.{length, replicate}
+use Rattle.machine.specs.State.{Machine}
+use Rattle.machine.specs.Refusals.{Call, hostWrite, advance}
+use Rattle.machine.specs.Fifo.{loAlert, hiAlert}
+use Rattle.machine.specs.Events.{started, afterCalls}
+use Rattle.numbers.specs.Shipped.{shipped, shippedWith, shippedImage}
 
 -- A checksum as its two bytes, low then high.
 abbrev pub lowHigh : ℕ → List ℕ
@@ -20,6 +25,21 @@ exampleKey = 0xA0 ∷ 0xA1 ∷ 0xA2 ∷ 0xA3 ∷ 0xA4 ∷ 0xA5 ∷ []
 
 abbrev pub exampleStored : List ℕ
 exampleStored = 0x5A ∷ 0xF0 ∷ 0x5A ∷ 0xE1 ∷ 0x5A ∷ 0xD2 ∷ 0x5A ∷ 0xC3 ∷ 0x5A ∷ 0xB4 ∷ 0x5A ∷ 0xA5 ∷ []
+
+-- A chip started from the shipped image, and calls on it. At Page 80h, host addresses 01h and 02h are Command and FIFOData.
+abbrev pub afterStart : List Call → Machine
+afterStart calls = afterCalls (started shippedImage) calls
+
+abbrev pub offers : ℕ → List Call
+offers n = replicate n (hostWrite 0x02 0x00)
+
+-- A command's code and its argument bytes.
+abbrev pub command : ℕ → List ℕ → List Call
+command code arguments = hostWrite 0x01 code ∷ map (hostWrite 0x02) arguments
+
+-- Paging off, TimerReload 3, TPreScaler 1, TStartNow, and clocks.
+abbrev pub timerRun : ℕ → List Call
+timerRun clocks = hostWrite 0x00 0x00 ∷ hostWrite 0x2C 3 ∷ hostWrite 0x2A 1 ∷ hostWrite 0x09 0x02 ∷ advance clocks ∷ []
 
 pub record NumbersToMeet : Type 0 where
   -- "CRC preset 6363h: 00 00 gives A0 1E; 12 34 gives 26 CF." ChannelRedundancy 00h: 16 bits, not complemented.
@@ -36,3 +56,22 @@ pub record NumbersToMeet : Type 0 where
   pub prescaler-21 : judged fixedBits (shippedWith 0x2A 21) ≡ pass
   pub prescaler-22 : judged fixedBits (shippedWith 0x2A 22) ≡ refuse-at 11 0x2A
   pub prescaler-24 : judged fixedBits (shippedWith 0x2A 24) ≡ refuse-at 11 0x2A
+  -- "64 bytes held: a 65th sets FIFOOvfl."
+  pub sixty-four-held : length (afterStart (offers 64) .held) ≡ 64
+  pub no-overflow-at-64 : afterStart (offers 64) .status .errors .fifoOvfl ≡ false
+  pub overflow-at-65 : afterStart (offers 65) .status .errors .fifoOvfl ≡ true
+  -- "WaterLevel 8: LoAlert at 8, not 9; HiAlert at 56, not 55." The shipped FIFOLevel is 08h.
+  pub lo-alert-at-8 : loAlert (afterStart (offers 8)) ≡ true
+  pub lo-alert-not-at-9 : loAlert (afterStart (offers 9)) ≡ false
+  pub hi-alert-at-56 : hiAlert (afterStart (offers 56)) ≡ true
+  pub hi-alert-not-at-55 : hiAlert (afterStart (offers 55)) ≡ false
+  -- "LoadConfig from 060h works, 061h is AccessErr."
+  pub load-config-060 : afterStart (command 0x07 (0x60 ∷ 0x00 ∷ [])) .status .errors .accessErr ≡ false
+  pub load-config-061 : afterStart (command 0x07 (0x61 ∷ 0x00 ∷ [])) .status .errors .accessErr ≡ true
+  -- "ReadE2 07Fh count 1 works, count 2 is AccessErr."
+  pub read-e2-count-1 : afterStart (command 0x03 (0x7F ∷ 0x00 ∷ 1 ∷ [])) .held ≡ 0x00 ∷ []
+  pub read-e2-count-1-flag : afterStart (command 0x03 (0x7F ∷ 0x00 ∷ 1 ∷ [])) .status .errors .accessErr ≡ false
+  pub read-e2-count-2 : afterStart (command 0x03 (0x7F ∷ 0x00 ∷ 2 ∷ [])) .status .errors .accessErr ≡ true
+  -- "Reload 3, prescaler 1: TimerIRq at clock 6, not 5."
+  pub timer-not-at-5 : afterStart (timerRun 5) .status .requests .timer ≡ false
+  pub timer-at-6 : afterStart (timerRun 6) .status .requests .timer ≡ true

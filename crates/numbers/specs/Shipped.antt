@@ -1,8 +1,8 @@
 -- The start-up profile that the MFRC531 is shipped with: EEPROM bytes 010h-02Fh, data sheet 005, Table 15.
 -- Assumes nothing.
 use Prim.Native.Nat.{ℕ, _-_}
-use mathlib.Core.List.{List, [], _∷_}
-use lib.ListN.{set}
+use mathlib.Core.List.{List, [], _∷_, _++_}
+use lib.ListN.{set, replicate}
 
 abbrev pub shipped : List ℕ
 shipped =
@@ -15,3 +15,7 @@ shipped =
 -- The shipped profile with another byte for one register.
 abbrev pub shippedWith : ℕ → ℕ → List ℕ
 shippedWith register byte = set shipped (register - 0x10) byte
+
+-- A memory image with the shipped profile at 010h-02Fh and zeros elsewhere.
+abbrev pub shippedImage : List ℕ
+shippedImage = replicate 16 0 ++ (shipped ++ replicate 464 0)

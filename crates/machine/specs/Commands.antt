@@ -1,0 +1,174 @@
+-- Document 01, "Commands": what writing Command starts, and what the active command does with waiting bytes.
+-- Assumes nothing.
+use Prim.Native.Nat.{ℕ, _+_, _*_, _%_}
+use mathlib.Core.Bool.{Bool, true, false, cond, not, _&&_, _||_}
+use mathlib.Core.List.{List, []}
+use lib.Dec.{ltb, leb, eqb}
+use lib.ListN.{length, take, drop, getD}
+use Rattle.crc.specs.Checksum.{presetOf, absorbedAll}
+use Rattle.key.specs.Key.{formatHolds, judgedKey, emptyKey}
+use Rattle.machine.specs.State.{Machine, Command, Writing, Idle, WriteE2, ReadE2, LoadConfig, LoadKeyE2, LoadKey, CalcCRC, Transmit, Receive, TransceiveSending, TransceiveReceiving, addressing, ready, programming, withCommand, withHeld, withErrors, withRequests, withChecksum, withKey, withRegisters}
+use Rattle.machine.specs.Fifo.{registerAt, offeredAll}
+use Rattle.machine.specs.Memory.{addressOf, bytesFrom, roomInBlock, programmingClocks, overRegisters}
+
+-- Flags and requests that commands set.
+abbrev pub raisedIdle : Machine → Machine
+raisedIdle m =
+    withRequests (record { timer = m .status .requests .timer; tx = m .status .requests .tx; rx = m .status .requests .rx; idle = true; hiAlert = m .status .requests .hiAlert; loAlert = m .status .requests .loAlert }) m
+
+abbrev pub raisedTx : Machine → Machine
+raisedTx m =
+    withRequests (record { timer = m .status .requests .timer; tx = true; rx = m .status .requests .rx; idle = m .status .requests .idle; hiAlert = m .status .requests .hiAlert; loAlert = m .status .requests .loAlert }) m
+
+abbrev pub raisedRx : Machine → Machine
+raisedRx m =
+    withRequests (record { timer = m .status .requests .timer; tx = m .status .requests .tx; rx = true; idle = m .status .requests .idle; hiAlert = m .status .requests .hiAlert; loAlert = m .status .requests .loAlert }) m
+
+abbrev pub withAccessErr : Machine → Machine
+withAccessErr m =
+    withErrors (record { keyErr = m .status .errors .keyErr; accessErr = true; fifoOvfl = m .status .errors .fifoOvfl; crcErr = m .status .errors .crcErr; parityErr = m .status .errors .parityErr }) m
+
+abbrev pub withKeyErr : Bool → Machine → Machine
+withKeyErr flag m =
+    withErrors (record { keyErr = flag; accessErr = m .status .errors .accessErr; fifoOvfl = m .status .errors .fifoOvfl; crcErr = m .status .errors .crcErr; parityErr = m .status .errors .parityErr }) m
+
+-- "clears AccessErr, CRCErr and ParityErr".
+abbrev pub clearedErrors : Machine → Machine
+clearedErrors m =
+    withErrors (record { keyErr = m .status .errors .keyErr; accessErr = false; fifoOvfl = m .status .errors .fifoOvfl; crcErr = false; parityErr = false }) m
+
+-- "A command that ends by itself, or an unknown code, goes to Idle and sets IdleIRq".
+abbrev pub ended : Machine → Machine
+ended m = withCommand Idle (raisedIdle m)
+
+-- The codes, document 01 and 005 section 11.
+abbrev pub codeOf : Command → ℕ
+codeOf Idle = 0x00
+codeOf (WriteE2 w) = 0x01
+codeOf ReadE2 = 0x03
+codeOf LoadConfig = 0x07
+codeOf LoadKeyE2 = 0x0B
+codeOf LoadKey = 0x19
+codeOf CalcCRC = 0x12
+codeOf Transmit = 0x1A
+codeOf Receive = 0x16
+codeOf TransceiveSending = 0x1E
+codeOf TransceiveReceiving = 0x1E
+
+-- A programming runs.
+abbrev pub writingPrograms : Writing → Bool
+writingPrograms addressing = false
+writingPrograms (ready a) = false
+writingPrograms (programming a bs left) = true
+
+abbrev pub programs : Command → Bool
+programs Idle = false
+programs (WriteE2 w) = writingPrograms w
+programs ReadE2 = false
+programs LoadConfig = false
+programs LoadKeyE2 = false
+programs LoadKey = false
+programs CalcCRC = false
+programs Transmit = false
+programs Receive = false
+programs TransceiveSending = false
+programs TransceiveReceiving = false
+
+-- CalcCRC "reads presets 23h, 24h and mode at its start".
+abbrev pub checksumStarted : Machine → Machine
+checksumStarted m = withChecksum (record { register = presetOf (registerAt m 0x22) (registerAt m 0x23) (registerAt m 0x24); mode = registerAt m 0x22 }) m
+
+-- A code is started; "Writing either code" of LoadKeyE2 and LoadKey "clears KeyErr".
+abbrev pub commandStarted : ℕ → Machine → Machine
+commandStarted code m =
+    cond (eqb code 0x00) (withCommand Idle m)
+    (cond (eqb code 0x01) (withCommand (WriteE2 addressing) m)
+    (cond (eqb code 0x03) (withCommand ReadE2 m)
+    (cond (eqb code 0x07) (withCommand LoadConfig m)
+    (cond (eqb code 0x0B) (withCommand LoadKeyE2 (withKeyErr false m))
+    (cond (eqb code 0x12) (withCommand CalcCRC (checksumStarted m))
+    (cond (eqb code 0x16) (withCommand Receive m)
+    (cond (eqb code 0x19) (withCommand LoadKey (withKeyErr false m))
+    (cond (eqb code 0x1A) (withCommand Transmit m)
+    (cond (eqb code 0x1E) (withCommand TransceiveSending m)
+    (ended m))))))))))
+
+-- "Writing Command ends the old command and clears AccessErr, CRCErr and ParityErr. While programming runs, the write is ignored".
+unfoldable pub commandWritten : ℕ → Machine → Machine
+commandWritten v m = cond (programs (m .command)) m (commandStarted (v % 64) (clearedErrors m))
+
+-- Arguments "are taken at once when all are held".
+abbrev pub enough : ℕ → Machine → Bool
+enough n m = leb n (length (m .held))
+
+abbrev pub argument : ℕ → Machine → ℕ
+argument k m = getD (m .held) k 0
+
+abbrev pub taken : ℕ → Machine → Machine
+taken n m = withHeld (drop n (m .held)) m
+
+-- WriteE2: "if the next address is below 010h, AccessErr and end, bytes left in place; else take waiting bytes up to the block end and
+-- program".
+abbrev pub latched : ℕ → Machine → Machine
+latched a m =
+    cond (ltb a 0x10) (ended (withAccessErr m))
+    (withCommand (WriteE2 (programming a (take (roomInBlock a) (m .held)) programmingClocks)) (taken (roomInBlock a) m))
+
+abbrev pub writeStepped : Writing → Machine → Machine
+writeStepped addressing m = cond (enough 2 m) (withCommand (WriteE2 (ready (addressOf (argument 0 m) (argument 1 m)))) (taken 2 m)) m
+writeStepped (ready a) m = cond (enough 1 m) (latched a m) m
+writeStepped (programming a bs left) m = m
+
+-- ReadE2: "If any wanted address is 080h or above: AccessErr, nothing offered. Else all are offered in order. Count 0 offers none and sets
+-- no flag."
+abbrev pub readable : ℕ → ℕ → Bool
+readable address count = eqb count 0 || leb (address + count) 0x80
+
+abbrev pub readBytes : List ℕ → ℕ → ℕ → List ℕ
+readBytes eeprom address count = cond (readable address count) (bytesFrom eeprom address count) []
+
+abbrev pub readFrom : ℕ → ℕ → Machine → Machine
+readFrom address count m =
+    cond (readable address count) (offeredAll (readBytes (m .eeprom) address count) m) (withAccessErr m)
+
+-- LoadConfig: "address (mod 200h) 010h to 060h, else AccessErr. 32 bytes to 10h-2Fh, Page positions skipped."
+abbrev pub configuredFrom : ℕ → Machine → Machine
+configuredFrom address m =
+    cond (leb 0x10 address && leb address 0x60)
+    (withRegisters (overRegisters 0 (m .registers) (bytesFrom (m .eeprom) address 32)) m)
+    (withAccessErr m)
+
+-- LoadKey and LoadKeyE2: twelve bytes are judged; "Bad format, or a start above 1F4h: KeyErr and an empty key".
+abbrev pub keyJudged : List ℕ → Machine → Machine
+keyJudged bytes m =
+    withKey (record { loaded = formatHolds bytes; bytes = judgedKey bytes }) (withKeyErr (m .status .errors .keyErr || not (formatHolds bytes)) m)
+
+abbrev pub keyFrom : ℕ → Machine → Machine
+keyFrom address m =
+    cond (ltb 0x1F4 address) (withKey (record { loaded = false; bytes = emptyKey }) (withKeyErr true m))
+    (keyJudged (bytesFrom (m .eeprom) address 12) m)
+
+-- CalcCRC "takes every byte, TxIRq when any was taken".
+abbrev pub checksumTaken : Machine → Machine
+checksumTaken m = withChecksum (record { register = absorbedAll (m .checksum .mode) (m .checksum .register) (m .held); mode = m .checksum .mode }) (withHeld [] m)
+
+-- What the active command does with waiting bytes, in one step.
+abbrev pub steppedAs : Command → Machine → Machine
+steppedAs Idle m = m
+steppedAs (WriteE2 w) m = writeStepped w m
+steppedAs ReadE2 m = cond (enough 3 m) (ended (readFrom (addressOf (argument 0 m) (argument 1 m)) (argument 2 m) (taken 3 m))) m
+steppedAs LoadConfig m = cond (enough 2 m) (ended (configuredFrom (addressOf (argument 0 m) (argument 1 m)) (taken 2 m))) m
+steppedAs LoadKeyE2 m = cond (enough 2 m) (ended (keyFrom (addressOf (argument 0 m) (argument 1 m)) (taken 2 m))) m
+steppedAs LoadKey m = cond (enough 12 m) (ended (keyJudged (take 12 (m .held)) (taken 12 m))) m
+steppedAs CalcCRC m = cond (enough 1 m) (raisedTx (checksumTaken m)) m
+steppedAs Transmit m = m
+steppedAs Receive m = m
+steppedAs TransceiveSending m = m
+steppedAs TransceiveReceiving m = m
+
+unfoldable pub stepped : Machine → Machine
+stepped m = steppedAs (m .command) m
+
+-- All that it does at once: WriteE2 may take its address and then latch bytes, every other command needs one step.
+unfoldable pub settled : Machine → Machine
+settled m = stepped (stepped m)

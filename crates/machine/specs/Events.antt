@@ -1,0 +1,139 @@
+-- The six events of document 01, "The chip on the bench", each with its answer, the next machine and the buffer lent.
+-- Assumes nothing.
+use Prim.Native.Nat.{ℕ, zero, suc, _+_, _-_, _%_}
+use mathlib.Core.Bool.{Bool, true, false, cond}
+use mathlib.Core.List.{List, [], _∷_, _++_}
+use lib.Dec.{eqb, leb}
+use lib.ListN.{length, take, drop, replicate}
+use Rattle.key.specs.Key.{emptyKey}
+use Rattle.machine.specs.State.{Machine, Command, Writing, Interrupts, Idle, WriteE2, ReadE2, LoadConfig, LoadKeyE2, LoadKey, CalcCRC, Transmit, Receive, TransceiveSending, TransceiveReceiving, addressing, ready, programming, withCommand, withHeld, withEeprom}
+use Rattle.machine.specs.Refusals.{Call, start, hostRead, hostWrite, advance, takeFrame, deliver, refusal}
+use Rattle.machine.specs.Registers.{mapped, registerRead, registerWritten}
+use Rattle.machine.specs.Fifo.{restOf, alerted}
+use Rattle.machine.specs.Timer.{stoppedAt, timerClock}
+use Rattle.machine.specs.Memory.{storedFrom, overRegisters, bytesFrom}
+use Rattle.machine.specs.Commands.{raisedTx, settled}
+use Rattle.machine.specs.Frames.{frameSent, txLastBits, sent, received}
+
+abbrev pub noInterrupts : Interrupts
+noInterrupts = record { timer = false; tx = false; rx = false; idle = false; hiAlert = false; loAlert = false }
+
+-- "Start: every number 0 unless this page says otherwise, FIFO, requests, enables and key empty, command Idle, then registers 10h-2Fh from
+-- EEPROM 010h-02Fh, Page positions skipped." Page is 80h and ErrorFlag 40h after a start.
+unfoldable pub started : List ℕ → Machine
+started image =
+    record {
+      page = 0x80;
+      command = Idle;
+      held = [];
+      status =
+          record {
+            enables = noInterrupts;
+            requests = noInterrupts;
+            errors = record { keyErr = true; accessErr = false; fifoOvfl = false; crcErr = false; parityErr = false };
+            control = 0;
+            rxLastBits = 0;
+          };
+      timer = stoppedAt 0;
+      checksum = record { register = 0; mode = 0 };
+      key = record { loaded = false; bytes = emptyKey };
+      bitFraming = 0;
+      registers = overRegisters 0 (replicate 32 0) (bytesFrom image 0x10 32);
+      eeprom = image;
+    }
+
+-- A host write changes its register, and the active command then does what it can.
+unfoldable pub written : ℕ → ℕ → Machine → Machine
+written address v m = alerted m (settled (registerWritten (mapped (m .page) address) v m))
+
+-- A host read of FIFOData removes the byte that it answers; no other read changes anything.
+unfoldable pub readByte : ℕ → Machine → ℕ
+readByte address m = registerRead (mapped (m .page) address) m
+
+unfoldable pub afterRead : ℕ → Machine → Machine
+afterRead address m = cond (eqb (mapped (m .page) address) 0x02) (alerted m (withHeld (restOf (m .held)) m)) m
+
+-- One clock of a programming. At its end the bytes "are in EEPROM, and TxIRq is set if none wait"; waiting bytes are latched in the same clock.
+abbrev pub programmed : ℕ → List ℕ → Machine → Machine
+programmed a bs m =
+    let stored = withCommand (WriteE2 (ready ((a + length bs) % 0x200))) (withEeprom (storedFrom (m .eeprom) a bs) m) in
+    cond (eqb (length (m .held)) 0) (raisedTx stored) (settled stored)
+
+abbrev pub writingClocked : Writing → Machine → Machine
+writingClocked addressing m = m
+writingClocked (ready a) m = m
+writingClocked (programming a bs left) m = cond (leb left 1) (programmed a bs m) (withCommand (WriteE2 (programming a bs (left - 1))) m)
+
+abbrev pub commandClocked : Command → Machine → Machine
+commandClocked Idle m = m
+commandClocked (WriteE2 w) m = writingClocked w m
+commandClocked ReadE2 m = m
+commandClocked LoadConfig m = m
+commandClocked LoadKeyE2 m = m
+commandClocked LoadKey m = m
+commandClocked CalcCRC m = m
+commandClocked Transmit m = m
+commandClocked Receive m = m
+commandClocked TransceiveSending m = m
+commandClocked TransceiveReceiving m = m
+
+-- One clock, for the timer and the programming.
+unfoldable pub clock : Machine → Machine
+clock m = commandClocked (m .command) (timerClock m)
+
+unfoldable pub clocks : ℕ → Machine → Machine
+clocks zero m = m
+clocks (suc n) m = clocks n (clock m)
+
+unfoldable pub advanced : ℕ → Machine → Machine
+advanced n m = alerted m (clocks n m)
+
+-- "a take empties the FIFO into the buffer .. Later buffer bytes stay."
+unfoldable pub taken : Machine → Machine
+taken m = alerted m (sent m)
+
+unfoldable pub bufferTaken : List ℕ → Machine → List ℕ
+bufferTaken buffer m = frameSent m ++ drop (length (frameSent m)) buffer
+
+unfoldable pub delivered : List ℕ → List ℕ → ℕ → Machine → Machine
+delivered bytes parities lastBits m = alerted m (received bytes parities lastBits m)
+
+-- What a call answers.
+pub data Answer : Type 0 where
+  refused : ℕ → Answer
+  done : Answer
+  byte : ℕ → Answer
+  -- "the number of bytes written and 0Fh bits 2-0"
+  frame : ℕ → ℕ → Answer
+
+-- What a call leaves: its answer, the next machine and the buffer lent (empty where none is).
+pub record Outcome : Type 0 where
+  pub answer : Answer
+  pub next : Machine
+  pub buffer : List ℕ
+
+abbrev pub bufferOf : Call → List ℕ
+bufferOf (start image) = []
+bufferOf (hostRead address) = []
+bufferOf (hostWrite address v) = []
+bufferOf (advance n) = []
+bufferOf (takeFrame buffer) = buffer
+bufferOf (deliver bytes parities lastBits) = []
+
+-- A call that is not refused.
+abbrev pub accepted : Machine → Call → Outcome
+accepted m (start image) = record { answer = done; next = started image; buffer = [] }
+accepted m (hostRead address) = record { answer = byte (readByte address m); next = afterRead address m; buffer = [] }
+accepted m (hostWrite address v) = record { answer = done; next = written address v m; buffer = [] }
+accepted m (advance n) = record { answer = done; next = advanced n m; buffer = [] }
+accepted m (takeFrame buffer) = record { answer = frame (length (frameSent m)) (txLastBits m); next = taken m; buffer = bufferTaken buffer m }
+accepted m (deliver bytes parities lastBits) = record { answer = done; next = delivered bytes parities lastBits m; buffer = [] }
+
+-- Any call: "A refusal answers its number .. Chip and buffers are as before."
+unfoldable pub perform : Machine → Call → Outcome
+perform m c = cond (eqb (refusal m c) 0) (accepted m c) (record { answer = refused (refusal m c); next = m; buffer = bufferOf c })
+
+-- A list of calls, each getting the machine that the one before left.
+unfoldable pub afterCalls : Machine → List Call → Machine
+afterCalls m [] = m
+afterCalls m (c ∷ cs) = afterCalls (perform m c .next) cs

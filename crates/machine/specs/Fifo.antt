@@ -1,0 +1,63 @@
+-- Document 01, "FIFO and timer", the FIFO, and the alerts of "Registers". The FIFO counts by its held bytes in order.
+-- Assumes nothing.
+use Prim.Native.Nat.{ℕ, _-_, _%_}
+use mathlib.Core.Bool.{Bool, true, false, cond, not, _&&_, _||_}
+use mathlib.Core.List.{List, [], _∷_, _++_}
+use lib.Dec.{ltb, leb}
+use lib.ListN.{length, getD}
+use Rattle.machine.specs.State.{Machine, Interrupts, Errors, withHeld, withErrors, withRequests}
+
+-- A register of 10h-2Fh as it is stored.
+abbrev pub registerAt : Machine → ℕ → ℕ
+registerAt m address = getD (m .registers) (address - 0x10) 0
+
+abbrev pub withFifoOvfl : Bool → Machine → Machine
+withFifoOvfl flag m =
+    withErrors (record { keyErr = m .status .errors .keyErr; accessErr = m .status .errors .accessErr; fifoOvfl = flag; crcErr = m .status .errors .crcErr; parityErr = m .status .errors .parityErr }) m
+
+-- "A byte offered at 64 held is refused and sets FIFOOvfl".
+unfoldable pub offered : ℕ → Machine → Machine
+offered b m = cond (ltb (length (m .held)) 64) (withHeld (m .held ++ b ∷ []) m) (withFifoOvfl true m)
+
+-- Bytes are offered in order.
+unfoldable pub offeredAll : List ℕ → Machine → Machine
+offeredAll [] m = m
+offeredAll (b ∷ bs) m = offeredAll bs (offered b m)
+
+-- "Reading an empty FIFO gives 00h", and removes nothing.
+abbrev pub firstOf : List ℕ → ℕ
+firstOf [] = 0
+firstOf (b ∷ bs) = b
+
+abbrev pub restOf : List ℕ → List ℕ
+restOf [] = []
+restOf (b ∷ bs) = bs
+
+-- Flush empties the FIFO; only it and a start clear FIFOOvfl.
+abbrev pub flushed : Machine → Machine
+flushed m = withFifoOvfl false (withHeld [] m)
+
+-- FIFOLevel (29h) bits 5-0.
+abbrev pub waterLevel : Machine → ℕ
+waterLevel m = registerAt m 0x29 % 64
+
+-- "LoAlert: held ≤ WaterLevel. HiAlert: 64 - held ≤ WaterLevel."
+unfoldable pub loAlert : Machine → Bool
+loAlert m = leb (length (m .held)) (waterLevel m)
+
+unfoldable pub hiAlert : Machine → Bool
+hiAlert m = leb (64 - length (m .held)) (waterLevel m)
+
+-- "Their requests are set when the flag is 0 before an event and 1 after it": the machine after an event, from before and after it.
+unfoldable pub alerted : Machine → Machine → Machine
+alerted before after =
+    withRequests
+    (record {
+      timer = after .status .requests .timer;
+      tx = after .status .requests .tx;
+      rx = after .status .requests .rx;
+      idle = after .status .requests .idle;
+      hiAlert = after .status .requests .hiAlert || (not (hiAlert before) && hiAlert after);
+      loAlert = after .status .requests .loAlert || (not (loAlert before) && loAlert after);
+    })
+    after

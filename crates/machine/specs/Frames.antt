@@ -1,0 +1,135 @@
+-- Document 01, "Commands": Transmit, Transceive and Receive; the frame that a take sends and the one that a delivery receives.
+-- Assumes nothing.
+use Prim.Native.Nat.{ℕ, _+_, _-_, _/_, _%_}
+use mathlib.Core.Bool.{Bool, true, false, cond, not, _&&_, _||_}
+use mathlib.Core.List.{List, [], _∷_, _++_}
+use lib.Count.{ones}
+use lib.Dec.{ltb, eqb}
+use lib.ListN.{length, take, drop}
+use Rattle.bits.specs.Bits.{bit, bitSet}
+use Rattle.crc.specs.Checksum.{CRC8, checksum}
+use Rattle.machine.specs.State.{Machine, Command, Idle, WriteE2, ReadE2, LoadConfig, LoadKeyE2, LoadKey, CalcCRC, Transmit, Receive, TransceiveSending, TransceiveReceiving, withCommand, withHeld, withErrors, withRxLastBits}
+use Rattle.machine.specs.Fifo.{registerAt, offeredAll}
+use Rattle.machine.specs.Timer.{TStartTxBegin, TStartTxEnd, TStopRx, timerStarted, timerStopped}
+use Rattle.machine.specs.Commands.{raisedTx, raisedRx, ended}
+
+-- "sending": Transmit, and Transceive before the take.
+abbrev pub sending : Command → Bool
+sending Idle = false
+sending (WriteE2 w) = false
+sending ReadE2 = false
+sending LoadConfig = false
+sending LoadKeyE2 = false
+sending LoadKey = false
+sending CalcCRC = false
+sending Transmit = true
+sending Receive = false
+sending TransceiveSending = true
+sending TransceiveReceiving = false
+
+-- "receiving": Receive, and Transceive after a take.
+abbrev pub receiving : Command → Bool
+receiving Idle = false
+receiving (WriteE2 w) = false
+receiving ReadE2 = false
+receiving LoadConfig = false
+receiving LoadKeyE2 = false
+receiving LoadKey = false
+receiving CalcCRC = false
+receiving Transmit = false
+receiving Receive = true
+receiving TransceiveSending = false
+receiving TransceiveReceiving = true
+
+-- A frame's checksum, by 22h-24h "as they stand at take or delivery": "low byte first; one byte for CRC8".
+abbrev pub crcWidth : Machine → ℕ
+crcWidth m = cond (CRC8 (registerAt m 0x22)) 1 2
+
+abbrev pub crcValue : Machine → List ℕ → ℕ
+crcValue m bytes = checksum (registerAt m 0x22) (registerAt m 0x23) (registerAt m 0x24) bytes
+
+abbrev pub crcBytes : Machine → List ℕ → List ℕ
+crcBytes m bytes = cond (CRC8 (registerAt m 0x22)) (crcValue m bytes ∷ []) (crcValue m bytes % 256 ∷ crcValue m bytes / 256 ∷ [])
+
+-- TxLastBits: BitFraming (0Fh) bits 2-0.
+abbrev pub txLastBits : Machine → ℕ
+txLastBits m = m .bitFraming % 8
+
+-- The frame sent: what is held, "CRC added if 22h bit 2 is set and 0Fh bits 2-0 are 0".
+abbrev pub frameSent : Machine → List ℕ
+frameSent m = m .held ++ cond (bitSet (registerAt m 0x22) 2 && eqb (txLastBits m) 0) (crcBytes m (m .held)) []
+
+-- "For one frame TxBegin comes before TxEnd"; each starts the timer where its bit of 2Bh is set.
+abbrev pub txBegun : Machine → Machine
+txBegun m = cond (TStartTxBegin m) (timerStarted m) m
+
+abbrev pub txEnded : Machine → Machine
+txEnded m = cond (TStartTxEnd m) (timerStarted m) m
+
+-- After the frame: "TxIRq. Then Idle, or receiving."
+abbrev pub afterSending : Command → Machine → Machine
+afterSending TransceiveSending m = withCommand TransceiveReceiving m
+afterSending Idle m = ended m
+afterSending (WriteE2 w) m = ended m
+afterSending ReadE2 m = ended m
+afterSending LoadConfig m = ended m
+afterSending LoadKeyE2 m = ended m
+afterSending LoadKey m = ended m
+afterSending CalcCRC m = ended m
+afterSending Transmit m = ended m
+afterSending Receive m = ended m
+afterSending TransceiveReceiving m = ended m
+
+-- A take empties the FIFO.
+unfoldable pub sent : Machine → Machine
+sent m = afterSending (m .command) (raisedTx (txEnded (txBegun (withHeld [] m))))
+
+-- "Parity (22h bit 0; bit 1 = odd) compares the count of ones in each complete byte with its parity bit."
+abbrev pub parityWrong : Machine → ℕ → ℕ → Bool
+parityWrong m b p = not (eqb ((ones b + p) % 2) (bit (registerAt m 0x22) 1))
+
+unfoldable pub anyParityWrong : Machine → List ℕ → List ℕ → Bool
+anyParityWrong m [] ps = false
+anyParityWrong m (b ∷ bs) [] = false
+anyParityWrong m (b ∷ bs) (p ∷ ps) = parityWrong m b p || anyParityWrong m bs ps
+
+-- With last bits, the last byte is not complete.
+abbrev pub completeBytes : List ℕ → ℕ → List ℕ
+completeBytes bytes lastBits = cond (eqb lastBits 0) bytes (take (length bytes - 1) bytes)
+
+abbrev pub parityFails : Machine → List ℕ → List ℕ → ℕ → Bool
+parityFails m bytes parities lastBits = bitSet (registerAt m 0x22) 0 && anyParityWrong m (completeBytes bytes lastBits) parities
+
+-- "With 22h bit 3 the trailing CRC is checked and dropped, wrong or not; a frame shorter than it, or with last bits, sets CRCErr and passes
+-- whole."
+abbrev pub hasCrc : Machine → List ℕ → ℕ → Bool
+hasCrc m bytes lastBits = bitSet (registerAt m 0x22) 3 && (not (ltb (length bytes) (crcWidth m)) && eqb lastBits 0)
+
+abbrev pub passed : Machine → List ℕ → ℕ → List ℕ
+passed m bytes lastBits = cond (hasCrc m bytes lastBits) (take (length bytes - crcWidth m) bytes) bytes
+
+unfoldable pub sameBytes : List ℕ → List ℕ → Bool
+sameBytes [] [] = true
+sameBytes [] (y ∷ ys) = false
+sameBytes (x ∷ xs) [] = false
+sameBytes (x ∷ xs) (y ∷ ys) = eqb x y && sameBytes xs ys
+
+abbrev pub crcFails : Machine → List ℕ → ℕ → Bool
+crcFails m bytes lastBits =
+    bitSet (registerAt m 0x22) 3
+    && cond (hasCrc m bytes lastBits) (not (sameBytes (drop (length bytes - crcWidth m) bytes) (crcBytes m (passed m bytes lastBits)))) true
+
+abbrev pub withFrameErrors : Bool → Bool → Machine → Machine
+withFrameErrors crc parity m =
+    withErrors (record { keyErr = m .status .errors .keyErr; accessErr = m .status .errors .accessErr; fifoOvfl = m .status .errors .fifoOvfl; crcErr = m .status .errors .crcErr || crc; parityErr = m .status .errors .parityErr || parity }) m
+
+abbrev pub rxStopped : Machine → Machine
+rxStopped m = cond (TStopRx m) (timerStopped m) m
+
+-- A delivery: "Bytes are offered in order; RxIRq; Idle."
+unfoldable pub received : List ℕ → List ℕ → ℕ → Machine → Machine
+received bytes parities lastBits m =
+    ended
+    (raisedRx
+    (offeredAll (passed m bytes lastBits)
+    (withRxLastBits lastBits (withFrameErrors (crcFails m bytes lastBits) (parityFails m bytes parities lastBits) (rxStopped m)))))

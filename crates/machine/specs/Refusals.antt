@@ -1,0 +1,67 @@
+-- Document 01, "Refusal numbers": which call is refused with which number. "When several apply: 7 first (a start judges no old chip), then 1, 2,
+-- 3, 5, 6, then 4." The number 0 stands for no refusal.
+-- Assumes nothing.
+use Prim.Native.Nat.{ℕ, _<_}
+use Rattle.bits.specs.Bits.{Bytes}
+use mathlib.Core.Bool.{Bool, true, false, cond, not, _&&_, _||_}
+use mathlib.Core.List.{List, [], _∷_}
+use lib.Dec.{ltb, leb, eqb}
+use lib.ListN.{length}
+use Rattle.machine.specs.State.{Machine}
+use Rattle.machine.specs.Frames.{sending, receiving}
+use Rattle.machine.specs.WellFormed.{wellFormed}
+
+-- A call: one of document 01's events with its own arguments and buffer, the chip apart.
+pub data Call : Type 0 where
+  -- from an EEPROM image
+  start : List ℕ → Call
+  -- of an address
+  hostRead : ℕ → Call
+  -- of an address and a byte
+  hostWrite : ℕ → ℕ → Call
+  -- by clocks
+  advance : ℕ → Call
+  -- into a buffer
+  takeFrame : List ℕ → Call
+  -- of bytes, their parity bits, and the last-bit count
+  deliver : List ℕ → List ℕ → ℕ → Call
+
+-- 3: "more than 65,535 clocks asked".
+abbrev pub clockLimit : ℕ
+clockLimit = 65_535
+
+unfoldable pub allBits : List ℕ → Bool
+allBits [] = true
+allBits (p ∷ ps) = leb p 1 && allBits ps
+
+-- 5: "received frame of 0 or over 64 bytes, parity list of another length, parity value above 1, or last-bit count above 7".
+abbrev pub frameFormed : List ℕ → List ℕ → ℕ → Bool
+frameFormed bytes parities lastBits =
+    leb 1 (length bytes) && (leb (length bytes) 64 && (eqb (length parities) (length bytes) && (allBits parities && leb lastBits 7)))
+
+-- Tests in turn: the number where the test holds, else what follows.
+abbrev pub refuseIf : Bool → ℕ → ℕ → ℕ
+refuseIf test number else = cond test number else
+
+unfoldable pub refusal : Machine → Call → ℕ
+refusal m (start image) = refuseIf (not (eqb (length image) 512)) 2 0
+refusal m (hostRead address) = refuseIf (not (wellFormed m)) 7 (refuseIf (ltb 63 address) 1 0)
+refusal m (hostWrite address v) = refuseIf (not (wellFormed m)) 7 (refuseIf (ltb 63 address) 1 0)
+refusal m (advance clocks) = refuseIf (not (wellFormed m)) 7 (refuseIf (ltb clockLimit clocks) 3 0)
+refusal m (takeFrame buffer) =
+    refuseIf (not (wellFormed m)) 7
+    (refuseIf (ltb (length buffer) 66) 6
+    (refuseIf (not (sending (m .command)) || eqb (length (m .held)) 0) 4 0))
+refusal m (deliver bytes parities lastBits) =
+    refuseIf (not (wellFormed m)) 7
+    (refuseIf (not (frameFormed bytes parities lastBits)) 5
+    (refuseIf (not (receiving (m .command))) 4 0))
+
+-- A call as a program makes it: its bytes are bytes.
+abbrev pub ByteCall : Call → Type 0
+ByteCall (start image) = Bytes image
+ByteCall (hostRead address) = Unit {0}
+ByteCall (hostWrite address v) = v < 256
+ByteCall (advance clocks) = Unit {0}
+ByteCall (takeFrame buffer) = Bytes buffer
+ByteCall (deliver bytes parities lastBits) = Bytes bytes

@@ -1,0 +1,107 @@
+-- Document 01, "Refusal numbers": when a state is well formed, clause by clause. A malformed one gets refusal 7.
+-- Assumes nothing.
+use Prim.Native.Nat.{ℕ, _+_, _%_, _/_, _^_}
+use mathlib.Core.Bool.{Bool, true, false, cond, not, _&&_, _||_}
+use mathlib.Core.List.{List, []}
+use mathlib.Core.Path.{_≡_}
+use Rattle.bits.specs.Bits.{Bytes}
+use lib.Dec.{ltb, leb, eqb}
+use lib.ListN.{length}
+use Rattle.crc.specs.Checksum.{CRC8}
+use Rattle.machine.specs.State.{Machine, Command, Writing, Timer, Checksum, Idle, WriteE2, ReadE2, LoadConfig, LoadKeyE2, LoadKey, CalcCRC, Transmit, Receive, TransceiveSending, TransceiveReceiving, addressing, ready, programming}
+use Rattle.machine.specs.Memory.{programmingClocks}
+
+-- "held bytes are at most 64".
+abbrev pub fifoFormed : List ℕ → Bool
+fifoFormed held = leb (length held) 64
+
+-- "a running timer has value 1 to 255, kept prescaler at most 21 and phase below 2^prescaler; a stopped one has kept prescaler and phase 0".
+abbrev pub timerFormed : Timer → Bool
+timerFormed t =
+    cond (t .running)
+    (leb 1 (t .value) && (leb (t .value) 255 && (leb (t .prescaler) 21 && ltb (t .phase) (2 ^ (t .prescaler)))))
+    (eqb (t .prescaler) 0 && eqb (t .phase) 0)
+
+-- "programming clocks left are 0 to 78,648, above 0 exactly when 1 to 16 latched bytes wait inside one block at 010h or above and WriteE2 is
+-- active"; "the next address is below 200h". A machine programs only within WriteE2.
+abbrev pub writingFormed : Writing → Bool
+writingFormed addressing = true
+writingFormed (ready a) = ltb a 0x200
+writingFormed (programming a bs left) =
+    leb 1 left && (leb left programmingClocks && (leb 1 (length bs) && (leb (a % 16 + length bs) 16 && (leb 0x10 a && ltb a 0x200))))
+
+abbrev pub commandFormed : Command → Bool
+commandFormed Idle = true
+commandFormed (WriteE2 w) = writingFormed w
+commandFormed ReadE2 = true
+commandFormed LoadConfig = true
+commandFormed LoadKeyE2 = true
+commandFormed LoadKey = true
+commandFormed CalcCRC = true
+commandFormed Transmit = true
+commandFormed Receive = true
+commandFormed TransceiveSending = true
+commandFormed TransceiveReceiving = true
+
+-- "no command could take waiting bytes, or end over them, at once": the most bytes that may wait while each is active.
+abbrev pub writingWaits : Writing → ℕ
+writingWaits addressing = 1
+writingWaits (ready a) = 0
+writingWaits (programming a bs left) = 64
+
+abbrev pub waits : Command → ℕ
+waits Idle = 64
+waits (WriteE2 w) = writingWaits w
+waits ReadE2 = 2
+waits LoadConfig = 1
+waits LoadKeyE2 = 1
+waits LoadKey = 11
+waits CalcCRC = 0
+waits Transmit = 64
+waits Receive = 64
+waits TransceiveSending = 64
+waits TransceiveReceiving = 64
+
+abbrev pub nothingPends : Command → List ℕ → Bool
+nothingPends c held = leb (length held) (waits c)
+
+-- "a CRC8 checksum below 100h".
+abbrev pub checksumFormed : Checksum → Bool
+checksumFormed c = cond (CRC8 (c .mode)) (ltb (c .register) 0x100) true
+
+-- "bits that always read 0 are 0": Page bits 6-3, and Control but for bits 5 and 4.
+abbrev pub bitsFormed : ℕ → ℕ → Bool
+bitsFormed page control = eqb (page / 8 % 16) 0 && (eqb (control % 16) 0 && eqb (control / 64) 0)
+
+unfoldable pub wellFormed : Machine → Bool
+wellFormed m =
+    fifoFormed (m .held)
+    && (timerFormed (m .timer)
+    && (commandFormed (m .command)
+    && (nothingPends (m .command) (m .held)
+    && (checksumFormed (m .checksum)
+    && bitsFormed (m .page) (m .status .control)))))
+
+-- What every chip's machine is by the types of its fields: bytes are bytes, and memories have their sizes. It is no part of refusal 7.
+abbrev pub latchedBytes : Command → List ℕ
+latchedBytes Idle = []
+latchedBytes (WriteE2 addressing) = []
+latchedBytes (WriteE2 (ready a)) = []
+latchedBytes (WriteE2 (programming a bs left)) = bs
+latchedBytes ReadE2 = []
+latchedBytes LoadConfig = []
+latchedBytes LoadKeyE2 = []
+latchedBytes LoadKey = []
+latchedBytes CalcCRC = []
+latchedBytes Transmit = []
+latchedBytes Receive = []
+latchedBytes TransceiveSending = []
+latchedBytes TransceiveReceiving = []
+
+pub record Sized (m : Machine) : Type 0 where
+  pub held-bytes : Bytes (m .held)
+  pub latched-bytes : Bytes (latchedBytes (m .command))
+  pub register-bytes : Bytes (m .registers)
+  pub register-count : length (m .registers) ≡ 32
+  pub eeprom-bytes : Bytes (m .eeprom)
+  pub eeprom-count : length (m .eeprom) ≡ 512

@@ -53,12 +53,15 @@ readByte address m = registerRead (mapped (m .page) address) m
 unfoldable pub afterRead : ℕ → Machine → Machine
 afterRead address m = cond (eqb (mapped (m .page) address) 0x02) (alerted m (withHeld (restOf (m .held)) m)) m
 
--- One clock of a programming. At its end the bytes "are in EEPROM, and TxIRq is set if none wait"; waiting bytes are latched in the same clock.
-abbrev pub programmed : ℕ → List ℕ → Machine → Machine
-programmed a bs m =
-    let stored = withCommand (WriteE2 (ready ((a + length bs) % 0x200))) (withEeprom (storedFrom (m .eeprom) a bs) m) in
-    cond (eqb (length (m .held)) 0) (raisedTx stored) (settled stored)
+-- The latched bytes are in EEPROM, and the next byte goes behind them: "000h follows 1FFh".
+abbrev pub batchStored : ℕ → List ℕ → Machine → Machine
+batchStored a bs m = withCommand (WriteE2 (ready ((a + length bs) % 0x200))) (withEeprom (storedFrom (m .eeprom) a bs) m)
 
+-- The end of a programming: "TxIRq is set if none wait"; waiting bytes are latched in the same clock.
+abbrev pub programmed : ℕ → List ℕ → Machine → Machine
+programmed a bs m = cond (eqb (length (m .held)) 0) (raisedTx (batchStored a bs m)) (settled (batchStored a bs m))
+
+-- One clock of a programming.
 abbrev pub writingClocked : Writing → Machine → Machine
 writingClocked addressing m = m
 writingClocked (ready a) m = m

@@ -1,0 +1,2 @@
+-- The single-clock rule, as a statement.
+pub mod Statement

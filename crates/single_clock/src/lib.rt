@@ -1,0 +1,1 @@
+// The single-clock rule over the machine's definition. Nothing here runs.

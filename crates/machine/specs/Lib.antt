@@ -1,4 +1,4 @@
--- Document 01, chapter by chapter.
+-- Document 01, chapter by chapter, and what is proved over it.
 pub mod Refusals
 pub mod WellFormed
 pub mod Registers
@@ -9,3 +9,7 @@ pub mod Commands
 pub mod Memory
 pub mod Frames
 pub mod State
+pub mod WellFormedness
+pub mod SingleClock
+pub mod Numbers
+pub mod Shipped

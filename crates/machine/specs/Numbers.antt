@@ -10,11 +10,11 @@ use Rattle.profile.specs.Answer.{pass, refuse-at}
 use Rattle.profile.specs.FixedBits.{fixedBits}
 use Rattle.profile.specs.Check.{judged}
 use lib.ListN.{length, replicate}
 use Rattle.machine.specs.State.{Machine}
 use Rattle.machine.specs.Refusals.{Call, hostWrite, advance}
 use Rattle.machine.specs.Fifo.{loAlert, hiAlert}
 use Rattle.machine.specs.Events.{started, afterCalls}
-use Rattle.numbers.specs.Shipped.{shipped, shippedWith, shippedImage}
+use Rattle.machine.specs.Shipped.{shipped, shippedWith, shippedImage}
 
 -- A checksum as its two bytes, low then high.
 abbrev pub lowHigh : ℕ → List ℕ

@@ -7,11 +7,11 @@ use mathlib.Core.Path.{_≡_, refl, sym, ap, _∙_}
 use mathlib.Core.Bool.{Bool, true, false, not, _&&_, _||_, or-false, not-and-self}
 use lib.ListN.{length}
 use borrow.Author.Tests.{leb-true, leb-false, le-leb, lt-leb}
 use Rattle.machine.specs.State.{Machine}
 use Rattle.machine.specs.Fifo.{loAlert, hiAlert, alerted, waterLevel}
 use Rattle.machine.specs.Events.{clock, clocks, advanced}
-use Rattle.single_clock.specs.Statement.{singly, SingleClockRule}
-use Rattle.single_clock.proofs.Laws.{requesting, raising, once, Calm, clocks-calm}
+use Rattle.machine.specs.SingleClock.{singly, SingleClockRule}
+use Rattle.machine.proofs.SingleClock.Laws.{requesting, raising, once, Calm, clocks-calm}
 
 -- Fewer held bytes against the same WaterLevel.
 lo-rises : (n : ℕ) (m : Machine) → loAlert m ≡ true → loAlert (clocks n m) ≡ true

@@ -4,16 +4,16 @@ use mathlib.Core.Path.{refl}
 use Rattle.crc.specs.Checksum.{afterBit, afterBits, afterByte, afterBytes}
 use Rattle.key.specs.Key.{stored, formatHolds, keyOf}
 use Rattle.profile.specs.Check.{firstRefusal, judged}
 use Rattle.machine.specs.Fifo.{offered, offeredAll, loAlert, hiAlert, alerted}
 use Rattle.machine.specs.Timer.{timerClock}
 use Rattle.machine.specs.Memory.{storedFrom, overRegisters}
 use Rattle.machine.specs.Commands.{commandWritten, stepped, settled}
 use Rattle.machine.specs.Frames.{sent, received, anyParityWrong, sameBytes}
 use Rattle.machine.specs.Registers.{registerRead, registerWritten}
 use Rattle.machine.specs.WellFormed.{wellFormed}
 use Rattle.machine.specs.Refusals.{allBits, refusal}
 use Rattle.machine.specs.Events.{started, written, readByte, afterRead, clock, clocks, advanced, taken, bufferTaken, delivered, perform, afterCalls}
-use Rattle.numbers.specs.Numbers.{NumbersToMeet}
+use Rattle.machine.specs.Numbers.{NumbersToMeet}
 
 pub numbers-met : NumbersToMeet
 unfolding afterBit afterBits afterByte afterBytes stored formatHolds keyOf firstRefusal judged offered offeredAll loAlert hiAlert alerted timerClock storedFrom overRegisters commandWritten stepped settled sent received anyParityWrong sameBytes registerRead registerWritten wellFormed allBits refusal started written readByte afterRead clock clocks advanced taken bufferTaken delivered perform afterCalls

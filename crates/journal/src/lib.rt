@@ -1,1 +1,0 @@
-// The journal of demand 3 and its theorem, over the machine's definition. Nothing here runs.

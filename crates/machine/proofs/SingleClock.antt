@@ -1,0 +1,3 @@
+-- The single-clock rule.
+pub mod Laws
+pub mod Rule

@@ -1,0 +1,70 @@
+-- Every call leads from a well-formed machine to a well-formed one.
+-- Assumes nothing.
+use Prim.Native.Nat.{ℕ, suc}
+use mathlib.Core.Path.{_≡_, refl}
+use mathlib.Core.Bool.{Bool, true, false, cond, not}
+use mathlib.Core.List.{List, [], _∷_}
+use native.Mathlib.Omega.{arith}
+use lib.Dec.{eqb, eqb·suc-zero}
+use lib.ListN.{length}
+use borrow.Author.Tests.{eqb-true, leb-true}
+use Rattle.machine.specs.State.{Machine}
+use Rattle.machine.specs.Registers.{mapped}
+use Rattle.machine.specs.WellFormed.{wellFormed, fifoFormed}
+use Rattle.machine.specs.Refusals.{Call, start, hostRead, hostWrite, advance, takeFrame, deliver, ByteCall, refusal}
+use Rattle.machine.specs.Events.{Outcome, refused, bufferOf, accepted, perform, afterCalls, afterRead, started}
+use Rattle.machine.specs.WellFormedness.{Formed, EachByteCall, WellFormedness}
+use Rattle.machine.proofs.WellFormed.Parts.{Good, by-cond, each, good-formed, formed-good}
+use Rattle.machine.proofs.WellFormed.Events.{started-good, written-good, after-read-good, advanced-good, taken-good, delivered-good}
+
+-- A start that is not refused has an image of 512 bytes.
+image-sized : (t : Bool) → cond {A = ℕ} (not t) 2 0 ≡ 0 → t ≡ true
+image-sized true h = refl
+image-sized false h = absurd (omega arith)
+
+-- A call that is not refused leads to a good machine.
+accepted-good : (m : Machine) (c : Call) → ByteCall c → refusal m c ≡ 0 → Good m → Good (accepted m c .next)
+unfolding refusal
+accepted-good m (start image) w e g = started-good image w (eqb-true (length image) 512 (image-sized (eqb (length image) 512) e))
+accepted-good m (hostRead address) w e g = after-read-good address m g
+accepted-good m (hostWrite address v) w e g = written-good address v m w g
+accepted-good m (advance n) w e g = advanced-good n m g
+accepted-good m (takeFrame buffer) w e g = taken-good m g
+accepted-good m (deliver bytes parities lastBits) w e g = delivered-good bytes parities lastBits m w g
+
+-- Any call.
+kept : (m : Machine) (c : Call) → ByteCall c → Formed m → Formed (perform m c .next)
+unfolding perform
+kept m c w f =
+    by-cond (λ (o : Outcome). Formed (o .next)) (eqb (refusal m c) 0) (accepted m c) _
+    (λ e. good-formed (accepted m c .next) (accepted-good m c w (eqb-true (refusal m c) 0 e) (formed-good m f)))
+    (λ e. f)
+
+-- Any list of calls.
+always : (m : Machine) (cs : List Call) → EachByteCall cs → Formed m → Formed (afterCalls m cs)
+unfolding EachByteCall afterCalls
+always m [] w f = f
+always m (c ∷ cs) (w, ws) f = always (perform m c .next) cs ws (kept m c w f)
+
+-- A refused call.
+refused-keeps : (m : Machine) (c : Call) (n : ℕ) → refusal m c ≡ suc n → (perform m c .next ≡ m) × (perform m c .buffer ≡ bufferOf c) × (perform m c .answer ≡ refused (suc n))
+unfolding perform
+refused-keeps m c n e = rw (e, eqb·suc-zero n) (refl, refl, refl)
+
+-- A read of another register than FIFOData.
+plain-read : (m : Machine) (address : ℕ) → eqb (mapped (m .page) address) 0x02 ≡ false → perform m (hostRead address) .next ≡ m
+unfolding perform afterRead
+plain-read m address h = by-cond (λ (o : Outcome). o .next ≡ m) (eqb (refusal m (hostRead address)) 0) _ _ (λ e. rw h) (λ e. refl)
+
+-- The statement.
+pub well-formedness : WellFormedness
+unfolding wellFormed
+well-formedness =
+    record {
+      starts = λ image w sized. good-formed (started image) (started-good image w sized);
+      kept = kept;
+      always = always;
+      refused-changes-nothing = refused-keeps;
+      plain-read = plain-read;
+      held-at-most-64 = λ m h. leb-true (length (m .held)) 64 (each (fifoFormed (m .held)) _ h .0);
+    }

@@ -1,0 +1,139 @@
+-- A machine's parts, each with what being well formed asks of it. An operation proves only the parts that it changes.
+-- Assumes nothing.
+use Prim.Native.Nat.{ℕ, _≤_}
+use mathlib.Core.Path.{_≡_, refl}
+use mathlib.Core.Bool.{Bool, true, false, cond, _&&_, false≢true}
+use mathlib.Core.List.{List}
+use lib.ListN.{length}
+use native.Mathlib.Omega.{arith}
+use borrow.Author.Tests.{leb-true, le-leb}
+use Rattle.bits.specs.Bits.{Bytes}
+use Rattle.machine.specs.State.{Machine, Command, Timer, Checksum}
+use Rattle.machine.specs.WellFormed.{fifoFormed, nothingPends, timerFormed, commandFormed, checksumFormed, bitsFormed, waits, latchedBytes, wellFormed}
+use Rattle.machine.specs.WellFormedness.{Formed}
+
+-- A choice by a test has what both its sides have.
+pub by-cond : {A : Type 0} (P : A → Type 0) (t : Bool) (x y : A) → (t ≡ true → P x) → (t ≡ false → P y) → P (cond t x y)
+by-cond P true x y p q = p refl
+by-cond P false x y p q = q refl
+
+pub either : {A : Type 0} (P : A → Type 0) (t : Bool) (x y : A) → P x → P y → P (cond t x y)
+either P t x y p q = by-cond P t x y (λ e. p) (λ e. q)
+
+-- Both of two tests hold, and each of two that hold together.
+pub both : {a b : Bool} → a ≡ true → b ≡ true → (a && b) ≡ true
+both {a} {b} p q = rw (p, q)
+
+pub each : (a b : Bool) → (a && b) ≡ true → (a ≡ true) × (b ≡ true)
+each true b h = (refl, h)
+each false b h = absurd (false≢true h)
+
+-- The active command is formed, and the bytes that it latched are bytes.
+pub record Active (c : Command) : Type 0 where
+  pub formed : commandFormed c ≡ true
+  pub latched : Bytes (latchedBytes c)
+
+-- The FIFO holds at most 64 bytes.
+pub record Waiting (bs : List ℕ) : Type 0 where
+  pub fits : length bs ≤ 64
+  pub bytes : Bytes bs
+
+-- A memory of n bytes.
+pub record Memory (n : ℕ) (bs : List ℕ) : Type 0 where
+  pub bytes : Bytes bs
+  pub count : length bs ≡ n
+
+-- The parts, without what the command asks of the waiting bytes.
+pub record Parts (page control : ℕ) (c : Command) (bs : List ℕ) (t : Timer) (s : Checksum) (rs es : List ℕ) : Type 0 where
+  pub bits : bitsFormed page control ≡ true
+  pub command : Active c
+  pub held : Waiting bs
+  pub timer : timerFormed t ≡ true
+  pub checksum : checksumFormed s ≡ true
+  pub registers : Memory 32 rs
+  pub eeprom : Memory 512 es
+
+-- A machine that is well formed but for waiting bytes that its command could take.
+abbrev pub Almost : Machine → Type 0
+Almost m = Parts (m .page) (m .status .control) (m .command) (m .held) (m .timer) (m .checksum) (m .registers) (m .eeprom)
+
+-- The same under a name that does not compute, for long chains of choices.
+pub record Kept (m : Machine) : Type 0 where
+  pub parts : Almost m
+
+pub keep : (m : Machine) → Almost m → Kept m
+keep m a = record { parts = a }
+
+-- Its command could take no waiting byte.
+abbrev pub Rests : Machine → Type 0
+Rests m = length (m .held) ≤ waits (m .command)
+
+-- A well-formed machine.
+abbrev pub Good : Machine → Type 0
+Good m = Almost m × Rests m
+
+-- It is what being well formed says, both ways.
+pub good-formed : (m : Machine) → Good m → Formed m
+unfolding wellFormed
+good-formed m (a, r) =
+    record {
+      well =
+          both (le-leb (length (m .held)) 64 (a .held .fits))
+          (both (a .timer)
+          (both (a .command .formed)
+          (both (le-leb (length (m .held)) (waits (m .command)) r)
+          (both (a .checksum)
+          (a .bits)))));
+      sized =
+          record {
+            held-bytes = a .held .bytes;
+            latched-bytes = a .command .latched;
+            register-bytes = a .registers .bytes;
+            register-count = a .registers .count;
+            eeprom-bytes = a .eeprom .bytes;
+            eeprom-count = a .eeprom .count;
+          };
+    }
+
+pub formed-good : (m : Machine) → Formed m → Good m
+unfolding wellFormed
+formed-good m f =
+    let (fifo, h₁) = each (fifoFormed (m .held)) _ (f .well) in
+    let (timed, h₂) = each (timerFormed (m .timer)) _ h₁ in
+    let (commanded, h₃) = each (commandFormed (m .command)) _ h₂ in
+    let (rests, h₄) = each (nothingPends (m .command) (m .held)) _ h₃ in
+    let (summed, bits) = each (checksumFormed (m .checksum)) _ h₄ in (
+      record {
+        bits = bits;
+        command = record { formed = commanded; latched = f .sized .latched-bytes };
+        held = record { fits = leb-true (length (m .held)) 64 fifo; bytes = f .sized .held-bytes };
+        timer = timed;
+        checksum = summed;
+        registers = record { bytes = f .sized .register-bytes; count = f .sized .register-count };
+        eeprom = record { bytes = f .sized .eeprom-bytes; count = f .sized .eeprom-count };
+      },
+      leb-true (length (m .held)) (waits (m .command)) rests,
+    )
+
+-- One part is changed, the others stay.
+module _ {page control : ℕ} {c : Command} {bs : List ℕ} {t : Timer} {s : Checksum} {rs es : List ℕ} (p : Parts page control c bs t s rs es) where
+  pub new-bits : (page′ control′ : ℕ) → bitsFormed page′ control′ ≡ true → Parts page′ control′ c bs t s rs es
+  new-bits page′ control′ h = record { bits = h; command = p .command; held = p .held; timer = p .timer; checksum = p .checksum; registers = p .registers; eeprom = p .eeprom }
+
+  pub new-command : (c′ : Command) → commandFormed c′ ≡ true → Bytes (latchedBytes c′) → Parts page control c′ bs t s rs es
+  new-command c′ h w = record { bits = p .bits; command = record { formed = h; latched = w }; held = p .held; timer = p .timer; checksum = p .checksum; registers = p .registers; eeprom = p .eeprom }
+
+  pub new-held : (bs′ : List ℕ) → length bs′ ≤ 64 → Bytes bs′ → Parts page control c bs′ t s rs es
+  new-held bs′ h w = record { bits = p .bits; command = p .command; held = record { fits = h; bytes = w }; timer = p .timer; checksum = p .checksum; registers = p .registers; eeprom = p .eeprom }
+
+  pub new-timer : (t′ : Timer) → timerFormed t′ ≡ true → Parts page control c bs t′ s rs es
+  new-timer t′ h = record { bits = p .bits; command = p .command; held = p .held; timer = h; checksum = p .checksum; registers = p .registers; eeprom = p .eeprom }
+
+  pub new-checksum : (s′ : Checksum) → checksumFormed s′ ≡ true → Parts page control c bs t s′ rs es
+  new-checksum s′ h = record { bits = p .bits; command = p .command; held = p .held; timer = p .timer; checksum = h; registers = p .registers; eeprom = p .eeprom }
+
+  pub new-registers : (rs′ : List ℕ) → Bytes rs′ → length rs′ ≡ 32 → Parts page control c bs t s rs′ es
+  new-registers rs′ w h = record { bits = p .bits; command = p .command; held = p .held; timer = p .timer; checksum = p .checksum; registers = record { bytes = w; count = h }; eeprom = p .eeprom }
+
+  pub new-eeprom : (es′ : List ℕ) → Bytes es′ → length es′ ≡ 512 → Parts page control c bs t s rs es′
+  new-eeprom es′ w h = record { bits = p .bits; command = p .command; held = p .held; timer = p .timer; checksum = p .checksum; registers = p .registers; eeprom = record { bytes = w; count = h } }

@@ -1,2 +1,0 @@
--- The single-clock rule, as a statement.
-pub mod Statement

@@ -1,1 +1,0 @@
-// The single-clock rule over the machine's definition. Nothing here runs.

@@ -1,0 +1,148 @@
+-- Demand 3, whole, over the machine's definition.
+-- Assumes nothing.
+use mathlib.Core.Path.{_≡_, refl, sym, ap, _∙_, subst}
+use mathlib.Core.Bool.{Bool, true, false, cond, not, _&&_, true≢false, false≢true}
+use mathlib.Core.List.{List, [], _∷_, _++_, append-assoc, append-cancel-left}
+use Prim.Native.Nat.{ℕ, suc, _+_, _%_, _<_, _≤_}
+use native.Mathlib.Omega.{arith}
+use lib.Dec.{ltb, leb, eqb, eqb·suc-zero}
+use lib.ListN.{length, getD, take, drop}
+use lib.Seq.{take-append-seam}
+use borrow.Author.Tests.{eqb-true, ltb-false, leb-true}
+use Rattle.key.specs.Key.{formatHolds, judgedKey}
+use Rattle.machine.specs.State.{Machine, Key, Command, WriteE2, programming}
+use Rattle.machine.specs.Fifo.{firstOf, alerted}
+use Rattle.machine.specs.Memory.{storedFrom, programmingClocks}
+use Rattle.machine.specs.Frames.{frameSent, crcBytes}
+use Rattle.machine.specs.Registers.{mapped, registerRead}
+use Rattle.machine.specs.WellFormed.{wellFormed, fifoFormed, timerFormed, commandFormed, nothingPends, checksumFormed, bitsFormed}
+use Rattle.machine.specs.Refusals.{Call, start, hostRead, hostWrite, advance, takeFrame, deliver, refusal, clockLimit}
+use Rattle.machine.specs.Events.{Outcome, Answer, accepted, perform, refused, bufferOf, written, readByte, afterRead, advanced, taken, delivered, bufferTaken, byte, clocks}
+use Rattle.journal.specs.Entries as e
+use Rattle.journal.specs.Entries.{collect, keyBytes}
+use Rattle.journal.specs.Journal.{Journal, enterAccepted, enter, leaveFrom, leave, Both}
+use Rattle.journal.specs.Demand.{run, NextCall, Demand3}
+use Rattle.journal.proofs.Agreement.{Agrees, AgreesWith, PlaceIs}
+use Rattle.journal.proofs.Run.{passed-test, not-false, run-agrees, conserved}
+use Rattle.journal.proofs.Keys.{Keyless, Judged, nothing, twelve, KeyCall, key-none, offers-keyless, leave-keyless, all-keyless, clocks-keyless, written-keys}
+use Rattle.journal.proofs.Programming.{stored-at, finishes}
+
+-- A call that is not refused.
+as-accepted : (m : Machine) (c : Call) → refusal m c ≡ 0 → perform m c ≡ accepted m c
+unfolding perform
+as-accepted m c ok = ap (λ (n : ℕ). cond (eqb n 0) (accepted m c) (record { answer = refused n; next = m; buffer = bufferOf c })) ok
+
+and-first : (s t : Bool) → (s && t) ≡ true → s ≡ true
+and-first true t h = refl
+and-first false t h = h
+
+and-rest : (s t : Bool) → (s && t) ≡ true → t ≡ true
+and-rest true t h = h
+and-rest false t h = absurd (false≢true h)
+
+command-formed : (m : Machine) → wellFormed m ≡ true → commandFormed (m .command) ≡ true
+unfolding wellFormed
+command-formed m h =
+    let after = nothingPends (m .command) (m .held) && (checksumFormed (m .checksum) && bitsFormed (m .page) (m .status .control)) in
+    and-first (commandFormed (m .command)) after (and-rest (timerFormed (m .timer)) (commandFormed (m .command) && after) (and-rest (fifoFormed (m .held)) (timerFormed (m .timer) && (commandFormed (m .command) && after)) h))
+
+-- A programming of a well-formed machine has a clock left.
+clocks-left : (s left : ℕ) (bs : List ℕ) → commandFormed (WriteE2 (programming s bs left)) ≡ true → 1 ≤ left
+clocks-left s left bs h =
+    leb-true 1 left (and-first (leb 1 left) (leb left programmingClocks && (leb 1 (length bs) && (leb (s % 16 + length bs) 16 && (leb 0x10 s && ltb s 0x200)))) h)
+
+module _ (image : List ℕ) where
+  -- Every call enters no key byte, or twelve that are judged.
+  accepted-keys : (c : Call) (m : Machine) (j : Journal) → AgreesWith image m j → KeyCall j (enterAccepted c m j) (accepted m c .next)
+  unfolding written alerted
+  accepted-keys (start image′) m j a = key-none j _ _ (all-keyless e.toStart (e.start image′) (λ b. refl) refl j)
+  accepted-keys (hostRead address) m j a = go (eqb (mapped (m .page) address) 0x02)
+    where
+      go : (t : Bool) → KeyCall j (cond t (leave e.toHost j) j) (afterRead address m)
+      go true = key-none j _ _ (leave-keyless e.toHost (λ b. refl) j)
+      go false = key-none j _ _ refl
+  accepted-keys (hostWrite address v) m j a =
+      let k = written-keys image (mapped (m .page) address) v m j a in record { bytes = k .bytes; entered-keys = k .entered-keys; judged = k .judged }
+  accepted-keys (advance n) m j a = key-none j _ _ (clocks-keyless image n m j)
+  accepted-keys (takeFrame buffer) m j a = key-none j _ _ (all-keyless e.toFrame e.take (λ b. refl) refl j)
+  accepted-keys (deliver bytes parities lastBits) m j a = key-none j _ _ (offers-keyless _ j)
+
+  call-keys : (c : Call) (m : Machine) (j : Journal) → AgreesWith image m j → KeyCall j (enter c m j) (perform m c .next)
+  unfolding perform enter
+  call-keys c m j a = go (eqb (refusal m c) 0)
+    where
+      go : (t : Bool) → KeyCall j (cond t (enterAccepted c m j) j) ((cond t (accepted m c) (record { answer = refused (refusal m c); next = m; buffer = bufferOf c })) .next)
+      go true = accepted-keys c m j a
+      go false = key-none j j m refl
+
+  judged-twelve : (k : Key) (f : Bool) (ks ls : List ℕ) (x : ℕ) → ks ≡ x ∷ ls → Judged k f ks → (length ks ≡ 12) × (k ≡ record { loaded = formatHolds ks; bytes = judgedKey ks }) × (f ≡ not (formatHolds ks))
+  judged-twelve k f ks ls x some nothing = absurd (let z : _≡_ {A = ℕ} 0 (suc (length ls)) = ap length some in omega arith)
+  judged-twelve k f ks ls x some (twelve size is err) = (size, is, err)
+
+  module _ (m : Machine) (j : Journal) (a : AgreesWith image m j) where
+    host-read-answer : (address : ℕ) → refusal m (hostRead address) ≡ 0 → eqb (mapped (m .page) address) 0x02 ≡ true → perform m (hostRead address) .answer ≡ byte (firstOf (j .held))
+    unfolding readByte registerRead
+    host-read-answer address ok is =
+        ap (λ (o : Outcome). o .answer) (as-accepted m (hostRead address) ok)
+        ∙ ap (λ (r : ℕ). byte (registerRead r m)) (eqb-true (mapped (m .page) address) 0x02 is)
+        ∙ ap (λ (h : List ℕ). byte (firstOf h)) (sym (a .same-held))
+
+    empty-read : (address : ℕ) → j .held ≡ [] → enter (hostRead address) m j ≡ j
+    unfolding enter leave
+    empty-read address none = go (eqb (refusal m (hostRead address)) 0) (eqb (mapped (m .page) address) 0x02)
+      where
+        go : (t u : Bool) → cond t (cond u (leaveFrom (j .held) e.toHost j) j) j ≡ j
+        go true true = ap (λ (h : List ℕ). leaveFrom h e.toHost j) none
+        go true false = refl
+        go false u = refl
+
+    frame-begins : (buffer : List ℕ) → refusal m (takeFrame buffer) ≡ 0 → take (length (j .held)) (perform m (takeFrame buffer) .buffer) ≡ j .held
+    unfolding bufferTaken
+    frame-begins buffer ok =
+        ap (λ (o : Outcome). take (length (j .held)) (o .buffer)) (as-accepted m (takeFrame buffer) ok)
+        ∙ ap (λ (h : List ℕ). take (length h) (frameSent m ++ drop (length (frameSent m)) buffer)) (a .same-held)
+        ∙ ap (take (length (m .held))) (append-assoc (m .held) _ _)
+        ∙ take-append-seam (m .held) _
+        ∙ sym (a .same-held)
+
+    refused-adds-nothing : (c : Call) (n : ℕ) → refusal m c ≡ suc n → enter c m j ≡ j
+    unfolding enter
+    refused-adds-nothing c n is = ap (λ (t : Bool). cond t (enterAccepted c m j) j) (ap (λ (k : ℕ). eqb k 0) is ∙ eqb·suc-zero n)
+
+    programmed-bytes-stand : (n s left : ℕ) (bs : List ℕ) → m .command ≡ WriteE2 (programming s bs left) → refusal m (advance n) ≡ 0 → left ≤ n →
+        (i : ℕ) → i < length bs → getD (perform m (advance n) .next .eeprom) (s + i) 0 ≡ getD bs i 0
+    unfolding refusal advanced alerted
+    programmed-bytes-stand n s left bs is ok within i h =
+        let tests = passed-test (not (wellFormed m)) 6 _ ok in
+        let limit = ltb-false clockLimit n (passed-test (ltb clockLimit n) 2 0 (tests .1) .0) in
+        let well = not-false (wellFormed m) (tests .0) in
+        let some = clocks-left s left bs (sym (ap commandFormed is) ∙ command-formed m well) in
+        let place = subst (λ (c : Command). PlaceIs c (j .base) (j .count)) is (a .same-place) in
+        ap (λ (o : Outcome). getD (o .next .eeprom) (s + i) 0) (as-accepted m (advance n) ok)
+        ∙ ap (λ (x : List ℕ). getD x (s + i) 0) (finishes n m s left bs is some within (omega arith))
+        ∙ stored-at bs (m .eeprom) s i (omega (arith, place .0, place .1, a .whole)) h
+
+    key-judged : (c : Call) (keys : List ℕ) (k : ℕ) (ks : List ℕ) → keys ≡ k ∷ ks → collect keyBytes (enter c m j .entries) ≡ collect keyBytes (j .entries) ++ keys →
+        (length keys ≡ 12) × (perform m c .next .key ≡ record { loaded = formatHolds keys; bytes = judgedKey keys }) × (perform m c .next .status .errors .keyErr ≡ not (formatHolds keys))
+    key-judged c keys k ks some added =
+        let called = call-keys c m j a in
+        let same : called .bytes ≡ keys = append-cancel-left (collect keyBytes (j .entries)) (called .bytes) keys (sym (called .entered-keys) ∙ added) in
+        judged-twelve _ _ keys ks k some (subst (Judged (perform m c .next .key) (perform m c .next .status .errors .keyErr)) same (called .judged))
+
+  next-call : (s : Both) → AgreesWith image (s .machine) (s .journal) → NextCall s
+  next-call s a =
+      record {
+        host-read-answer = host-read-answer (s .machine) (s .journal) a;
+        empty-read = empty-read (s .machine) (s .journal) a;
+        frame-begins = frame-begins (s .machine) (s .journal) a;
+        refused-adds-nothing = refused-adds-nothing (s .machine) (s .journal) a;
+        programmed-bytes-stand = programmed-bytes-stand (s .machine) (s .journal) a;
+        key-judged = key-judged (s .machine) (s .journal) a;
+      }
+
+pub demand-3 : Demand3
+demand-3 =
+    record {
+      conserved = λ image size calls. conserved image (run image calls) (run-agrees image size calls);
+      next-call = λ image size calls. next-call image (run image calls) (run-agrees image size calls);
+    }

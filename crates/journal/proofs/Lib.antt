@@ -1,0 +1,9 @@
+pub mod Folds
+pub mod Moves
+pub mod Agreement
+pub mod Steps
+pub mod Calls
+pub mod Run
+pub mod Keys
+pub mod Programming
+pub mod Demand

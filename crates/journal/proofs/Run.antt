@@ -1,0 +1,95 @@
+-- Every call, refused or not, keeps machine and journal in agreement; so does every list of calls.
+-- Assumes nothing.
+use mathlib.Core.Path.{_≡_, refl, sym, ap, _∙_, subst}
+use mathlib.Core.Bool.{Bool, true, false, cond, not, _||_, true≢false}
+use mathlib.Core.List.{List, [], _∷_, _++_, append-assoc}
+use Prim.Native.Nat.{ℕ, zero, suc, _≤_}
+use native.Mathlib.Omega.{arith}
+use lib.Dec.{ltb, eqb}
+use lib.ListN.{length, take, drop}
+use lib.Seq.{take-append-seam}
+use borrow.Author.Tests.{eqb-true, eqb-false}
+use Rattle.crc.specs.Checksum.{resultOf, afterBytes}
+use Rattle.machine.specs.State.{Machine, Checksum}
+use Rattle.machine.specs.Fifo.{firstOf}
+use Rattle.machine.specs.Frames.{sending, receiving, frameSent}
+use Rattle.machine.specs.Registers.{mapped, registerRead}
+use Rattle.machine.specs.WellFormed.{wellFormed}
+use Rattle.machine.specs.Refusals.{Call, start, hostRead, hostWrite, advance, takeFrame, deliver, refusal, refuseIf, frameFormed}
+use Rattle.machine.specs.Events.{Outcome, accepted, perform, refused, bufferOf, started, written, readByte, afterRead, advanced, taken, delivered, bufferTaken, byte}
+use Rattle.machine.specs.Fifo.{alerted}
+use Rattle.journal.specs.Entries.{bytesOut, latestFrom, memoryFrom, collect}
+use Rattle.journal.specs.Journal.{Journal, empty, enterAccepted, enter, leave, Both, called, after}
+use Rattle.journal.specs.Demand.{run, storedBytes, Conserved}
+use Rattle.journal.proofs.Moves.{moves-none}
+use Rattle.journal.proofs.Agreement.{Agrees, AgreesWith}
+use Rattle.journal.proofs.Calls.{written-agrees, clocks-agree, read-agrees, sent-agrees, received-agrees, started-agrees}
+
+-- A test that refuses did not hold.
+pub passed-test : (t : Bool) (n rest : ℕ) → refuseIf t (suc n) rest ≡ 0 → (t ≡ false) × (rest ≡ 0)
+passed-test true n rest h = absurd (omega (arith, h))
+passed-test false n rest h = (refl, h)
+
+pub not-false : (t : Bool) → not t ≡ false → t ≡ true
+not-false true h = refl
+not-false false h = absurd (true≢false h)
+
+or-first : (s t : Bool) → (s || t) ≡ false → s ≡ false
+or-first true t h = h
+or-first false t h = refl
+
+module _ (image : List ℕ) where
+  accepted-agrees : (c : Call) (m : Machine) (j : Journal) → refusal m c ≡ 0 → AgreesWith image m j → AgreesWith image (accepted m c .next) (enterAccepted c m j)
+  unfolding refusal written afterRead advanced taken delivered alerted
+  accepted-agrees (start image′) m j ok a =
+      started-agrees image image′ j (eqb-true (length image′) 512 (not-false _ (passed-test (not (eqb (length image′) 512)) 1 0 ok .0))) a
+  accepted-agrees (hostRead address) m j ok a = read-agrees image (eqb (mapped (m .page) address) 0x02) m j a
+  accepted-agrees (hostWrite address v) m j ok a = written-agrees image (mapped (m .page) address) v m m j a
+  accepted-agrees (advance n) m j ok a = clocks-agree image n m j a
+  accepted-agrees (takeFrame buffer) m j ok a =
+      let rest = passed-test (ltb (length buffer) 66) 5 _ (passed-test (not (wellFormed m)) 6 _ ok .1) .1 in
+      sent-agrees image m m j (not-false _ (or-first _ _ (passed-test (not (sending (m .command)) || eqb (length (m .held)) 0) 3 0 rest .0))) a
+  accepted-agrees (deliver bytes parities lastBits) m j ok a =
+      let rest = passed-test (not (frameFormed bytes parities lastBits)) 4 _ (passed-test (not (wellFormed m)) 6 _ ok .1) .1 in
+      received-agrees image bytes parities lastBits m m j (not-false _ (passed-test (not (receiving (m .command))) 3 0 rest .0)) a
+
+  pub call-agrees : (c : Call) (m : Machine) (j : Journal) → AgreesWith image m j → AgreesWith image (perform m c .next) (enter c m j)
+  unfolding perform enter
+  call-agrees c m j a = go (eqb (refusal m c) 0) refl
+    where
+      go : (t : Bool) → eqb (refusal m c) 0 ≡ t →
+          AgreesWith image ((cond t (accepted m c) (record { answer = refused (refusal m c); next = m; buffer = bufferOf c })) .next) (cond t (enterAccepted c m j) j)
+      go true is = accepted-agrees c m j (eqb-true (refusal m c) 0 is) a
+      go false is = a
+
+  calls-agree : (calls : List Call) (s : Both) → AgreesWith image (s .machine) (s .journal) → AgreesWith image (after s calls .machine) (after s calls .journal)
+  unfolding after
+  calls-agree [] s a = a
+  calls-agree (c ∷ cs) s a = calls-agree cs (called c s) (call-agrees c (s .machine) (s .journal) a)
+
+  -- After a start the journal is empty.
+  start-agrees : length image ≡ 512 → AgreesWith image (started image) empty
+  unfolding started latestFrom memoryFrom storedBytes afterBytes
+  start-agrees size =
+      record {
+        same-held = refl;
+        moved = moves-none [];
+        same-checksum = refl;
+        same-memory = record { finished = []; split = refl; stored = refl };
+        same-place = tt;
+        key-clear = tt;
+        whole = size;
+      }
+
+  pub run-agrees : length image ≡ 512 → (calls : List Call) → AgreesWith image (run image calls .machine) (run image calls .journal)
+  run-agrees size calls = calls-agree calls (record { machine = started image; journal = empty }) (start-agrees size)
+
+  pub conserved : (s : Both) → AgreesWith image (s .machine) (s .journal) → Conserved image s
+  conserved s a =
+      record {
+        same-held = a .same-held;
+        taken-in-when-under-64 = a .moved .turns;
+        in-order = a .moved .order ∙ ap (λ (h : List ℕ). collect bytesOut (s .journal .entries) ++ h) (a .same-held);
+        checksum-shown = sym (ap (λ (k : Checksum). resultOf (k .mode) (k .register)) (a .same-checksum));
+        memory-stored = a .same-memory;
+      }

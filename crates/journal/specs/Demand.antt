@@ -1,0 +1,102 @@
+-- Demand 3 over the machine's definition: what holds after every list of calls from a start that succeeds. Each clause of the demand has a
+-- field of its own.
+-- Assumes nothing.
+use Prim.Native.Nat.{ℕ, suc, _+_, _<_, _≤_}
+use mathlib.Core.Path.{_≡_}
+use mathlib.Core.Bool.{true, not}
+use mathlib.Core.List.{List, [], _∷_, _++_}
+use lib.Dec.{eqb}
+use lib.ListN.{length, take, getD, set}
+use Rattle.crc.specs.Checksum.{absorbedAll, resultOf}
+use Rattle.key.specs.Key.{formatHolds, judgedKey}
+use Rattle.machine.specs.State.{Machine, Checksum, Key, Command, Idle, WriteE2, ReadE2, LoadConfig, LoadKeyE2, LoadKey, CalcCRC, Transmit, Receive, TransceiveSending, TransceiveReceiving, addressing, ready, programming}
+use Rattle.machine.specs.Fifo.{firstOf}
+use Rattle.machine.specs.Registers.{mapped, crcResult}
+use Rattle.machine.specs.Refusals.{Call, hostRead, advance, takeFrame, refusal}
+use Rattle.machine.specs.Events.{started, perform, byte}
+use Rattle.journal.specs.Entries as e
+use Rattle.journal.specs.Entries.{Entry, bytesIn, bytesOut, collect, InTurn, Latest, noChecksum, latestFrom, Byte, Memory, memoryFrom, keyBytes}
+use Rattle.journal.specs.Journal.{Journal, empty, enter, Both, called, after}
+
+-- The machine and the journal after a start from an image and a list of calls.
+abbrev pub run : List ℕ → List Call → Both
+run image calls = after (record { machine = started image; journal = empty }) calls
+
+-- The checksum unit that has absorbed what left to a CalcCRC.
+abbrev pub checksumOf : Latest → Checksum
+checksumOf l = record { register = absorbedAll (l .mode) (l .preset) (l .input); mode = l .mode }
+
+-- Bytes at an address and behind it.
+unfoldable pub batch : ℕ → List ℕ → List Byte
+batch a [] = []
+batch a (b ∷ bs) = record { address = a; value = b } ∷ batch (a + 1) bs
+
+-- The memory bytes whose programming has not ended.
+abbrev pub waiting : Command → List Byte
+waiting Idle = []
+waiting (WriteE2 addressing) = []
+waiting (WriteE2 (ready a)) = []
+waiting (WriteE2 (programming a bs left)) = batch a bs
+waiting ReadE2 = []
+waiting LoadConfig = []
+waiting LoadKeyE2 = []
+waiting LoadKey = []
+waiting CalcCRC = []
+waiting Transmit = []
+waiting Receive = []
+waiting TransceiveSending = []
+waiting TransceiveReceiving = []
+
+-- An image with memory bytes stored, one after the other.
+unfoldable pub storedBytes : List ℕ → List Byte → List ℕ
+storedBytes image [] = image
+storedBytes image (b ∷ bs) = storedBytes (set image (b .address) (b .value)) bs
+
+-- The memory bytes since the last start are those whose programming has ended, which are in EEPROM, and those that wait.
+pub record MemoryIs (r : Memory) (c : Command) (eeprom : List ℕ) : Type 0 where
+  pub finished : List Byte
+  pub split : r .bytes ≡ finished ++ waiting c
+  pub stored : eeprom ≡ storedBytes (r .image) finished
+
+-- What holds after a list of calls, of the machine and the journal.
+pub record Conserved (image : List ℕ) (s : Both) : Type 0 where
+  -- the journal's held list is what the chip holds
+  pub same-held : s .journal .held ≡ s .machine .held
+  -- "a byte was taken in exactly when fewer than 64 were held at its turn"
+  pub taken-in-when-under-64 : InTurn 0 (s .journal .entries)
+  -- "The bytes taken in, in order, are those that left .., in the order they left, followed by those the chip still holds"
+  pub in-order : collect bytesIn (s .journal .entries) ≡ collect bytesOut (s .journal .entries) ++ s .machine .held
+  -- "0Dh, 0Eh show the checksum of what left to the latest CalcCRC since the last start (0 without one)"
+  pub checksum-shown : let l = latestFrom noChecksum (s .journal .entries) in crcResult (s .machine) ≡ resultOf (l .mode) (absorbedAll (l .mode) (l .preset) (l .input))
+  -- "each is at its memory address after the call that finishes its programming, unless a start comes first"
+  pub memory-stored : MemoryIs (memoryFrom (record { image = image; bytes = [] }) (s .journal .entries)) (s .machine .command) (s .machine .eeprom)
+
+-- What holds of every call that comes next.
+pub record NextCall (s : Both) : Type 0 where
+  -- a host read of FIFOData answers the byte that leaves to it, and 0 where none is held
+  pub host-read-answer :
+      (address : ℕ) → refusal (s .machine) (hostRead address) ≡ 0 → eqb (mapped (s .machine .page) address) 0x02 ≡ true →
+      perform (s .machine) (hostRead address) .answer ≡ byte (firstOf (s .journal .held))
+  -- "reading an empty buffer removes nothing"
+  pub empty-read : (address : ℕ) → s .journal .held ≡ [] → enter (hostRead address) (s .machine) (s .journal) ≡ s .journal
+  -- "A take's buffer begins with what left to it"
+  pub frame-begins :
+      (buffer : List ℕ) → refusal (s .machine) (takeFrame buffer) ≡ 0 →
+      take (length (s .journal .held)) (perform (s .machine) (takeFrame buffer) .buffer) ≡ s .journal .held
+  -- "A refused call adds nothing"
+  pub refused-adds-nothing : (c : Call) (n : ℕ) → refusal (s .machine) c ≡ suc n → enter c (s .machine) (s .journal) ≡ s .journal
+  -- "each is at its memory address after the call that finishes its programming": an advance by as many clocks as were left, or more
+  pub programmed-bytes-stand :
+      (n a left : ℕ) (bs : List ℕ) → s .machine .command ≡ WriteE2 (programming a bs left) → refusal (s .machine) (advance n) ≡ 0 → left ≤ n →
+      (i : ℕ) → i < length bs → getD (perform (s .machine) (advance n) .next .eeprom) (a + i) 0 ≡ getD bs i 0
+  -- "KeyErr and key are judged from the twelve as they leave"
+  pub key-judged :
+      (c : Call) (twelve : List ℕ) (k : ℕ) (ks : List ℕ) → twelve ≡ k ∷ ks →
+      collect keyBytes (enter c (s .machine) (s .journal) .entries) ≡ collect keyBytes (s .journal .entries) ++ twelve →
+      let m = perform (s .machine) c .next in
+      (length twelve ≡ 12) × (m .key ≡ record { loaded = formatHolds twelve; bytes = judgedKey twelve }) × (m .status .errors .keyErr ≡ not (formatHolds twelve))
+
+-- Demand 3, whole.
+pub record Demand3 : Type 0 where
+  pub conserved : (image : List ℕ) → length image ≡ 512 → (calls : List Call) → Conserved image (run image calls)
+  pub next-call : (image : List ℕ) → length image ≡ 512 → (calls : List Call) → NextCall (run image calls)

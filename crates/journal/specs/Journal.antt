@@ -1,0 +1,225 @@
+-- Document 01, "The journal of demand 3": it "is fed the calls' arguments, the chip apart, and goes by a chip of demand 2's definition". It has
+-- entries and a held list of its own, and keeps the address of the latest WriteE2 and the number of its memory bytes.
+-- Assumes nothing.
+use Prim.Native.Nat.{ℕ, zero, suc, _+_, _%_, min}
+use mathlib.Core.Bool.{Bool, true, false, cond}
+use mathlib.Core.List.{List, [], _∷_, _++_, map}
+use lib.Dec.{ltb, leb, eqb}
+use lib.ListN.{length, getD, replicate}
+use Rattle.bits.specs.Bits.{bitSet}
+use Rattle.machine.specs.State.{Machine, Command, Writing, Idle, WriteE2, ReadE2, LoadConfig, LoadKeyE2, LoadKey, CalcCRC, Transmit, Receive, TransceiveSending, TransceiveReceiving, addressing, ready, programming, withCommand}
+use Rattle.machine.specs.Fifo.{registerAt}
+use Rattle.machine.specs.Memory.{addressOf, roomInBlock}
+use Rattle.machine.specs.Commands.{programs, commandWritten, readBytes, stepped}
+use Rattle.machine.specs.Frames.{passed}
+use Rattle.machine.specs.Registers.{mapped, registerWritten}
+use Rattle.machine.specs.Refusals.{Call, start, hostRead, hostWrite, advance, takeFrame, deliver, refusal}
+use Rattle.machine.specs.Timer.{timerClock}
+use Rattle.machine.specs.Events.{batchStored, clock, perform}
+use Rattle.journal.specs.Entries as e
+use Rattle.journal.specs.Entries.{Entry}
+
+pub record Journal : Type 0 where
+  pub entries : List Entry
+  pub held : List ℕ
+  -- the latest WriteE2's address, and the number of its memory bytes so far
+  pub base : ℕ
+  pub count : ℕ
+
+abbrev pub empty : Journal
+empty = record { entries = []; held = []; base = 0; count = 0 }
+
+-- An entry that moves no byte.
+abbrev pub entered : Entry → Journal → Journal
+entered x j = record { entries = j .entries ++ x ∷ []; held = j .held; base = j .base; count = j .count }
+
+-- "With under 64 in the held list a byte joins its end and is entered as taken in, else as refused."
+unfoldable pub offer : ℕ → Journal → Journal
+offer b j =
+    cond (ltb (length (j .held)) 64)
+    (record { entries = j .entries ++ e.takenIn b ∷ []; held = j .held ++ b ∷ []; base = j .base; count = j .count })
+    (entered (e.turnedAway b) j)
+
+unfoldable pub offerAll : List ℕ → Journal → Journal
+offerAll [] j = j
+offerAll (b ∷ bs) j = offerAll bs (offer b j)
+
+-- "The first held, if any, leaves".
+abbrev pub leaveFrom : List ℕ → (ℕ → Entry) → Journal → Journal
+leaveFrom [] to j = j
+leaveFrom (b ∷ bs) to j = record { entries = j .entries ++ to b ∷ []; held = bs; base = j .base; count = j .count }
+
+unfoldable pub leave : (ℕ → Entry) → Journal → Journal
+leave to j = leaveFrom (j .held) to j
+
+-- "All held leave to a take, a flush or a later start, which is entered too."
+unfoldable pub leaveAll : (ℕ → Entry) → Entry → Journal → Journal
+leaveAll to x j = entered x (record { entries = j .entries ++ map to (j .held); held = []; base = j .base; count = j .count })
+
+-- What a command takes a byte as.
+pub data Use : Type 0 where
+  address : Use
+  number : Use
+  key : Use
+  checksum : Use
+  memory : Use
+
+-- "a memory byte's address is the command's plus the number of its memory bytes before".
+abbrev pub counted : Journal → Journal
+counted j = record { entries = j .entries; held = j .held; base = j .base; count = j .count + 1 }
+
+unfoldable pub leaveAs : Use → Journal → Journal
+leaveAs address j = leave e.toAddress j
+leaveAs number j = leave e.toCount j
+leaveAs key j = leave e.toKey j
+leaveAs checksum j = leave e.toChecksum j
+leaveAs memory j = counted (leave (e.toMemory (j .base + j .count)) j)
+
+unfoldable pub leaveAllAs : List Use → Journal → Journal
+leaveAllAs [] j = j
+leaveAllAs (u ∷ us) j = leaveAllAs us (leaveAs u j)
+
+-- What the active command takes at once of n held bytes, by document 01, "Commands".
+abbrev pub wanted : ℕ → ℕ → List Use → List Use
+wanted n least us = cond (leb least n) us []
+
+abbrev pub usesOfWriting : Writing → ℕ → List Use
+usesOfWriting addressing n = wanted n 2 (address ∷ address ∷ [])
+usesOfWriting (ready a) n = cond (leb 0x10 a) (replicate (min (roomInBlock a) n) memory) []
+usesOfWriting (programming a bs left) n = []
+
+abbrev pub usesOf : Command → ℕ → List Use
+usesOf Idle n = []
+usesOf (WriteE2 w) n = usesOfWriting w n
+usesOf ReadE2 n = wanted n 3 (address ∷ address ∷ number ∷ [])
+usesOf LoadConfig n = wanted n 2 (address ∷ address ∷ [])
+usesOf LoadKeyE2 n = wanted n 2 (address ∷ address ∷ [])
+usesOf LoadKey n = wanted n 12 (replicate 12 key)
+usesOf CalcCRC n = replicate n checksum
+usesOf Transmit n = []
+usesOf Receive n = []
+usesOf TransceiveSending n = []
+usesOf TransceiveReceiving n = []
+
+-- A WriteE2 that has its address counts its memory bytes from there.
+abbrev pub based : ℕ → Journal → Journal
+based a j = record { entries = j .entries; held = j .held; base = a; count = 0 }
+
+abbrev pub addressHeld : Journal → ℕ
+addressHeld j = addressOf (getD (j .held) 0 0) (getD (j .held) 1 0)
+
+abbrev pub basedBy : Command → Journal → Journal → Journal
+basedBy Idle before j = j
+basedBy (WriteE2 addressing) before j = cond (leb 2 (length (before .held))) (based (addressHeld before) j) j
+basedBy (WriteE2 (ready a)) before j = j
+basedBy (WriteE2 (programming a bs left)) before j = j
+basedBy ReadE2 before j = j
+basedBy LoadConfig before j = j
+basedBy LoadKeyE2 before j = j
+basedBy LoadKey before j = j
+basedBy CalcCRC before j = j
+basedBy Transmit before j = j
+basedBy Receive before j = j
+basedBy TransceiveSending before j = j
+basedBy TransceiveReceiving before j = j
+
+-- "ReadE2's bytes" are offered.
+abbrev pub offersOf : Command → List ℕ → Journal → List ℕ
+offersOf Idle eeprom j = []
+offersOf (WriteE2 w) eeprom j = []
+offersOf ReadE2 eeprom j = cond (leb 3 (length (j .held))) (readBytes eeprom (addressHeld j) (getD (j .held) 2 0)) []
+offersOf LoadConfig eeprom j = []
+offersOf LoadKeyE2 eeprom j = []
+offersOf LoadKey eeprom j = []
+offersOf CalcCRC eeprom j = []
+offersOf Transmit eeprom j = []
+offersOf Receive eeprom j = []
+offersOf TransceiveSending eeprom j = []
+offersOf TransceiveReceiving eeprom j = []
+
+-- One step of the active command: bytes leave to it, and it may offer bytes.
+unfoldable pub enterStep : Machine → Journal → Journal
+enterStep m j =
+    offerAll (offersOf (m .command) (m .eeprom) j)
+    (basedBy (m .command) j (leaveAllAs (usesOf (m .command) (length (j .held))) j))
+
+-- All that the active command does at once.
+unfoldable pub enterSettled : Machine → Journal → Journal
+enterSettled m j = enterStep (stepped m) (enterStep m j)
+
+-- A write to Command that is not ignored may begin a CalcCRC, which reads its mode and presets then.
+abbrev pub begun : Command → Machine → Journal → Journal
+begun CalcCRC m j = entered (e.calcCRC (registerAt m 0x22) (registerAt m 0x23) (registerAt m 0x24)) j
+begun Idle m j = j
+begun (WriteE2 w) m j = j
+begun ReadE2 m j = j
+begun LoadConfig m j = j
+begun LoadKeyE2 m j = j
+begun LoadKey m j = j
+begun Transmit m j = j
+begun Receive m j = j
+begun TransceiveSending m j = j
+begun TransceiveReceiving m j = j
+
+abbrev pub enterCommand : ℕ → Machine → Journal → Journal
+enterCommand v m j = cond (programs (m .command)) j (begun (commandWritten v m .command) m j)
+
+-- A host write, by its register after mapping: FIFOData is offered the byte, and FlushFIFO of Control flushes.
+abbrev pub enterRegister : ℕ → ℕ → Machine → Journal → Journal
+enterRegister r v m j =
+    cond (eqb (r % 8) 0) j
+    (cond (eqb r 0x01) (enterCommand v m j)
+    (cond (eqb r 0x02) (offer v j)
+    (cond (eqb r 0x09) (cond (bitSet v 0) (leaveAll e.toFlush e.flush j) j)
+    j)))
+
+unfoldable pub enterWritten : ℕ → ℕ → Machine → Journal → Journal
+enterWritten r v m j = enterSettled (registerWritten r v m) (enterRegister r v m j)
+
+-- One clock: where a programming ends and bytes wait, the next ones leave.
+abbrev pub enterEnd : ℕ → List ℕ → Machine → Journal → Journal
+enterEnd a bs m j = cond (eqb (length (j .held)) 0) j (enterSettled (batchStored a bs m) j)
+
+abbrev pub enterClockOf : Command → Machine → Journal → Journal
+enterClockOf (WriteE2 (programming a bs left)) m j = cond (leb left 1) (enterEnd a bs m j) j
+enterClockOf (WriteE2 addressing) m j = j
+enterClockOf (WriteE2 (ready a)) m j = j
+enterClockOf Idle m j = j
+enterClockOf ReadE2 m j = j
+enterClockOf LoadConfig m j = j
+enterClockOf LoadKeyE2 m j = j
+enterClockOf LoadKey m j = j
+enterClockOf CalcCRC m j = j
+enterClockOf Transmit m j = j
+enterClockOf Receive m j = j
+enterClockOf TransceiveSending m j = j
+enterClockOf TransceiveReceiving m j = j
+
+unfoldable pub enterClocks : ℕ → Machine → Journal → Journal
+enterClocks zero m j = j
+enterClocks (suc n) m j = enterClocks n (clock m) (enterClockOf (m .command) (timerClock m) j)
+
+-- A call that is not refused.
+abbrev pub enterAccepted : Call → Machine → Journal → Journal
+enterAccepted (start image) m j = leaveAll e.toStart (e.start image) j
+enterAccepted (hostRead a) m j = cond (eqb (mapped (m .page) a) 0x02) (leave e.toHost j) j
+enterAccepted (hostWrite a v) m j = enterWritten (mapped (m .page) a) v m j
+enterAccepted (advance n) m j = enterClocks n m j
+enterAccepted (takeFrame buffer) m j = leaveAll e.toFrame e.take j
+enterAccepted (deliver bytes parities lastBits) m j = offerAll (passed m bytes lastBits) j
+
+-- Any call: "Nothing else moves a byte, nor does a refused call."
+unfoldable pub enter : Call → Machine → Journal → Journal
+enter c m j = cond (eqb (refusal m c) 0) (enterAccepted c m j) j
+
+-- The machine of demand 2's definition and the journal that goes by it, after a list of calls.
+pub record Both : Type 0 where
+  pub machine : Machine
+  pub journal : Journal
+
+abbrev pub called : Call → Both → Both
+called c s = record { machine = perform (s .machine) c .next; journal = enter c (s .machine) (s .journal) }
+
+unfoldable pub after : Both → List Call → Both
+after s [] = s
+after s (c ∷ cs) = after (called c s) cs

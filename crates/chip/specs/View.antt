@@ -68,18 +68,20 @@ viewOf c slots registers latch key eeprom =
       command = commandOf (c .command) (c .sending) (writingOf (c .writing) latch);
       held = heldOf (c .ring) slots;
       status =
-        record {
-          enables = interruptsOf (c .interrupts .enables);
-          requests = interruptsOf (c .interrupts .requests);
-          errors = errorsOf (c .errors);
-          control = c .control;
-          rxLastBits = c .«rx_last_bits» };
+          record {
+            enables = interruptsOf (c .interrupts .enables);
+            requests = interruptsOf (c .interrupts .requests);
+            errors = errorsOf (c .errors);
+            control = c .control;
+            rxLastBits = c .«rx_last_bits»;
+          };
       timer = record { running = isSet (c .timer .running); value = c .timer .value; prescaler = c .timer .prescaler; phase = c .timer .phase };
       checksum = record { register = c .checksum .register; mode = c .checksum .mode };
       key = record { loaded = isSet (c .«key_loaded»); bytes = key };
       bitFraming = c .«bit_framing»;
       registers = registers;
-      eeprom = eeprom }
+      eeprom = eeprom;
+    }
 
 abbrev pub view : Chip → Machine
 view c = viewOf (c .core) (c .slots) (c .registers) (c .latch) (c .key) (c .eeprom)

@@ -1,4 +1,4 @@
--- The starred numbers, by computation from the definitions.
+-- The starred numbers and the readings, by computation from the definitions.
 -- Assumes nothing.
 use mathlib.Core.Path.{refl}
 use Rattle.crc.specs.Checksum.{afterBit, afterBits, afterByte, afterBytes}
@@ -14,6 +14,7 @@ use Rattle.machine.specs.WellFormed.{wellFormed}
 use Rattle.machine.specs.Refusals.{allBits, refusal}
 use Rattle.machine.specs.Events.{started, written, readByte, afterRead, clock, clocks, advanced, taken, bufferTaken, delivered, perform, afterCalls}
 use Rattle.machine.specs.Numbers.{NumbersToMeet}
+use Rattle.machine.specs.Readings.{Readings}
 
 pub numbers-met : NumbersToMeet
 unfolding afterBit afterBits afterByte afterBytes stored formatHolds keyOf firstRefusal judged offered offeredAll loAlert hiAlert alerted timerClock storedFrom overRegisters commandWritten stepped settled sent received anyParityWrong sameBytes registerRead registerWritten wellFormed allBits refusal started written readByte afterRead clock clocks advanced taken bufferTaken delivered perform afterCalls
@@ -43,4 +44,20 @@ numbers-met =
       read-e2-count-2 = refl;
       timer-not-at-5 = refl;
       timer-at-6 = refl;
+    }
+
+pub readings-met : Readings
+unfolding afterBit afterBits afterByte afterBytes stored formatHolds keyOf firstRefusal judged offered offeredAll loAlert hiAlert alerted timerClock storedFrom overRegisters commandWritten stepped settled sent received anyParityWrong sameBytes registerRead registerWritten wellFormed allBits refusal started written readByte afterRead clock clocks advanced taken bufferTaken delivered perform afterCalls
+readings-met =
+    record {
+      load-config-loads-anything = refl;
+      block-0-is-met = refl;
+      block-0-flag = refl;
+      block-0-byte-left = refl;
+      oldest-stays = refl;
+      prescaler-kept = refl;
+      prescaler-kept-6 = refl;
+      first-byte-read = refl;
+      length-read = refl;
+      programming-time = refl;
     }

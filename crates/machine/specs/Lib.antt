@@ -12,4 +12,5 @@ pub mod State
 pub mod WellFormedness
 pub mod SingleClock
 pub mod Numbers
+pub mod Readings
 pub mod Shipped

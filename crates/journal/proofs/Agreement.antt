@@ -138,7 +138,7 @@ module _ (image : List ℕ) where
   use-held number j = leave-held e.toCount j
   use-held key j = leave-held e.toKey j
   use-held checksum j = leave-held e.toChecksum j
-  use-held memory j = leave-held (e.toMemory (j .base + j .count)) j
+  use-held memory j = leave-held _ j
 
   drop-next : (n : ℕ) (h : List ℕ) → drop n (drop 1 h) ≡ drop (suc n) h
   drop-next n [] = drop-nil n

@@ -12,7 +12,7 @@ use Rattle.bits.specs.Bits.{bit, bitSet}
 use Rattle.crc.specs.Checksum.{presetOf, afterBytes}
 use Rattle.machine.specs.State.{Machine, Checksum, Command, Writing, Idle, WriteE2, ReadE2, LoadConfig, LoadKeyE2, LoadKey, CalcCRC, Transmit, Receive, TransceiveSending, TransceiveReceiving, addressing, ready, programming, withCommand, withHeld, withTimer, withPage, withEnables, withRequests, withControl, withBitFraming, withRegisters, withRxLastBits}
 use Rattle.machine.specs.Fifo.{registerAt, offered, offeredAll, flushed, restOf, alerted}
-use Rattle.machine.specs.Timer.{timerStarted, timerStopped, timerStepped, timerClock, runningAt, raisedTimer, restarted, stoppedAt, TAutoRestart, TimerReload}
+use Rattle.machine.specs.Timer.{timerStarted, timerStopped, timerClock}
 use Rattle.machine.specs.Commands.{programs, writingPrograms, clearedErrors, commandStarted, commandWritten, checksumStarted, withKeyErr, ended, settled, raisedTx, raisedRx}
 use Rattle.machine.specs.Registers.{pageWritten, controlWritten, interruptsWritten, registerWritten}
 use Rattle.machine.specs.Events.{batchStored, programmed, commandClocked, clock, clocks, started}
@@ -26,6 +26,7 @@ use Rattle.machine.specs.Frames.{sending, receiving, sent, received, afterSendi
 use Rattle.machine.specs.Timer.{TStartTxBegin, TStartTxEnd, TStopRx}
 use Rattle.journal.proofs.Agreement.{leave-held, Agrees, AgreesWith, PlaceIs, KeyClear, quietly, either, offered-agrees, offers-agree, programmed-agrees, commanded}
 use Rattle.journal.proofs.Steps.{offered-idle, settle-agrees}
+use Rattle.journal.proofs.Timer.{timer-any, timer-command}
 
 -- A command that does not program has no latched bytes.
 idle-latch : (c : Command) → programs c ≡ false → waiting c ≡ []
@@ -177,35 +178,7 @@ module _ (image : List ℕ) where
 
   -- The timer moves no byte.
   timer-agrees : (m : Machine) (j : Journal) → AgreesWith image m j → AgreesWith image (timerClock m) j
-  unfolding timerClock
-  timer-agrees m j a = go (m .timer .running) (ltb (m .timer .phase + 1) (2 ^ (m .timer .prescaler))) (ltb 1 (m .timer .value))
-    where
-      go : (r p v : Bool) →
-          AgreesWith image
-          (cond r
-          (cond p (withTimer (runningAt (m .timer .value) (m .timer .prescaler) (m .timer .phase + 1)) m)
-          (cond v (withTimer (runningAt (m .timer .value - 1) (m .timer .prescaler) 0) m)
-          (withTimer (cond (TAutoRestart m) (restarted (TimerReload m) (m .timer .prescaler)) (stoppedAt 0)) (raisedTimer m))))
-          m) j
-      go true true v = a
-      go true false true = a
-      go true false false = a
-      go false p v = a
-
-  timer-command : (m : Machine) → timerClock m .command ≡ m .command
-  unfolding timerClock
-  timer-command m = go (m .timer .running) (ltb (m .timer .phase + 1) (2 ^ (m .timer .prescaler))) (ltb 1 (m .timer .value))
-    where
-      go : (r p v : Bool) →
-          (cond r
-          (cond p (withTimer (runningAt (m .timer .value) (m .timer .prescaler) (m .timer .phase + 1)) m)
-          (cond v (withTimer (runningAt (m .timer .value - 1) (m .timer .prescaler) 0) m)
-          (withTimer (cond (TAutoRestart m) (restarted (TimerReload m) (m .timer .prescaler)) (stoppedAt 0)) (raisedTimer m))))
-          m) .command ≡ m .command
-      go true true v = refl
-      go true false true = refl
-      go true false false = refl
-      go false p v = refl
+  timer-agrees m j a = timer-any (λ n. AgreesWith image n j) m a (λ t. a) (λ t. a)
 
   -- A programming ends.
   end-agrees : (s left : ℕ) (bs : List ℕ) (m : Machine) (j : Journal) → m .command ≡ WriteE2 (programming s bs left) → AgreesWith image m j → AgreesWith image (programmed s bs m) (enterEnd s bs m j)

@@ -2,6 +2,7 @@ pub mod Folds
 pub mod Moves
 pub mod Agreement
 pub mod Steps
+pub mod Timer
 pub mod Calls
 pub mod Run
 pub mod Keys

@@ -13,7 +13,8 @@ use lib.Seq.{getD-set-same, getD-set-other}
 use borrow.Author.Tests.{leb-true, leb-false, le-leb, lt-leb, eqb-true}
 use Rattle.machine.specs.State.{Machine, Command, Writing, Idle, WriteE2, ReadE2, LoadConfig, LoadKeyE2, LoadKey, CalcCRC, Transmit, Receive, TransceiveSending, TransceiveReceiving, addressing, ready, programming, withCommand, withTimer}
 use Rattle.machine.specs.Memory.{storedFrom, roomInBlock, programmingClocks}
-use Rattle.machine.specs.Timer.{timerClock, runningAt, raisedTimer, restarted, stoppedAt, TAutoRestart, TimerReload}
+use Rattle.machine.specs.Timer.{timerClock}
+use Rattle.journal.proofs.Timer.{timer-eeprom, timer-command}
 use Rattle.machine.specs.Commands.{programs, enough, taken, ended, withAccessErr, latched, raisedTx, steppedAs, stepped, settled}
 use Rattle.machine.specs.Events.{batchStored, programmed, commandClocked, clock, clocks}
 
@@ -35,29 +36,6 @@ stored-at (b ∷ bs) eeprom a (suc i) fits h =
     let next : a + suc i ≡ a + 1 + i = omega arith in
     ap (λ (k : ℕ). getD (storedFrom (set eeprom a b) (a + 1) bs) k 0) next
     ∙ stored-at bs (set eeprom a b) (a + 1) i (omega (arith, length-set eeprom a b)) (le-of-suc-le-suc h)
-
--- The timer touches neither memory nor command.
-module _ (m : Machine) where
-  timer-cases : {X : Type 0} (f : Machine → X) → ((t : _) → f (withTimer t m) ≡ f m) → ((t : _) → f (withTimer t (raisedTimer m)) ≡ f m) → f (timerClock m) ≡ f m
-  unfolding timerClock
-  timer-cases f p q = go (m .timer .running) (ltb (m .timer .phase + 1) (2 ^ (m .timer .prescaler))) (ltb 1 (m .timer .value))
-    where
-      go : (r s v : Bool) →
-          f (cond r
-          (cond s (withTimer (runningAt (m .timer .value) (m .timer .prescaler) (m .timer .phase + 1)) m)
-          (cond v (withTimer (runningAt (m .timer .value - 1) (m .timer .prescaler) 0) m)
-          (withTimer (cond (TAutoRestart m) (restarted (TimerReload m) (m .timer .prescaler)) (stoppedAt 0)) (raisedTimer m))))
-          m) ≡ f m
-      go true true v = p _
-      go true false true = p _
-      go true false false = q _
-      go false s v = refl
-
-  pub timer-eeprom : timerClock m .eeprom ≡ m .eeprom
-  timer-eeprom = timer-cases (λ n. n .eeprom) (λ t. refl) (λ t. refl)
-
-  pub timer-command : timerClock m .command ≡ m .command
-  timer-command = timer-cases (λ n. n .command) (λ t. refl) (λ t. refl)
 
 -- A command that does not program stands while clocks come.
 plain-clocked : (c : Command) (n : Machine) → programs c ≡ false → commandClocked c n ≡ n

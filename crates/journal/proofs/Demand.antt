@@ -18,6 +18,7 @@ use Rattle.machine.specs.Registers.{mapped, registerRead}
 use Rattle.machine.specs.WellFormed.{wellFormed, fifoFormed, timerFormed, commandFormed, nothingPends, checksumFormed, bitsFormed}
 use Rattle.machine.specs.Refusals.{Call, start, hostRead, hostWrite, advance, takeFrame, deliver, refusal, clockLimit}
 use Rattle.machine.specs.Events.{Outcome, Answer, accepted, perform, refused, bufferOf, written, readByte, afterRead, advanced, taken, delivered, bufferTaken, byte, clocks}
+use Rattle.machine.proofs.Performing.{as-accepted}
 use Rattle.journal.specs.Entries as e
 use Rattle.journal.specs.Entries.{collect, keyBytes}
 use Rattle.journal.specs.Journal.{Journal, enterAccepted, enter, leaveFrom, leave, Both}
@@ -26,11 +27,6 @@ use Rattle.journal.proofs.Agreement.{Agrees, AgreesWith, PlaceIs}
 use Rattle.journal.proofs.Run.{passed-test, not-false, run-agrees, conserved}
 use Rattle.journal.proofs.Keys.{Keyless, Judged, nothing, twelve, KeyCall, key-none, offers-keyless, leave-keyless, all-keyless, clocks-keyless, written-keys}
 use Rattle.journal.proofs.Programming.{stored-at, finishes}
-
--- A call that is not refused.
-as-accepted : (m : Machine) (c : Call) → refusal m c ≡ 0 → perform m c ≡ accepted m c
-unfolding perform
-as-accepted m c ok = ap (λ (n : ℕ). cond (eqb n 0) (accepted m c) (record { answer = refused n; next = m; buffer = bufferOf c })) ok
 
 and-first : (s t : Bool) → (s && t) ≡ true → s ≡ true
 and-first true t h = refl

@@ -1,3 +1,4 @@
 pub mod Numbers
+pub mod Performing
 pub mod SingleClock
 pub mod WellFormed

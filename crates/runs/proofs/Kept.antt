@@ -1,0 +1,101 @@
+-- Demand 3 over the program, from the events' relation and the theorem over the definition.
+-- Assumes nothing.
+use mathlib.Core.Path.{_≡_, refl, sym, ap, _∙_, subst}
+use mathlib.Core.Bool.{Bool, true, cond, not}
+use mathlib.Core.List.{List, [], _∷_, map}
+use Prim.Native.Nat.{ℕ, zero, suc}
+use lib.ListN.{length}
+use borrow.Author.Tests.{eq-eqb}
+use Rattle.machine.specs.State.{Machine}
+use Rattle.machine.specs.Refusals.{Call, start, hostRead, hostWrite, advance, takeFrame, deliver, refusal}
+use Rattle.machine.specs.Events.{Answer, Outcome, done, refused, accepted, perform, bufferOf, started}
+use Rattle.machine.proofs.Performing.{as-accepted}
+use Rattle.machine.proofs.WellFormed.Kept.{well-formedness}
+use Rattle.journal.specs.Journal.{Journal, Both, empty, called, after}
+use Rattle.journal.specs.Demand.{run, Conserved, NextCall}
+use Rattle.journal.proofs.Demand.{demand-3}
+use Rattle.chip.specs.View.{view, chipFormed}
+use Rattle.chip.specs.Meets.{chipRefusal, Meets}
+use Rattle.chip.specs.declared.Chip.{Chip}
+use Rattle.runs.specs.Run.{Step, callsOf, Run, end, next, AsDefined, Kept, ProgramDemand3}
+
+-- A well-formed chip is refused as its machine is.
+refused-alike : (c : Chip) (call : Call) → chipFormed c ≡ true → chipRefusal c call ≡ refusal (view c) call
+unfolding chipRefusal
+refused-alike c (start image) formed = refl
+refused-alike c (hostRead address) formed = ap (λ (t : Bool). cond t (refusal (view c) (hostRead address)) 7) formed
+refused-alike c (hostWrite address v) formed = ap (λ (t : Bool). cond t (refusal (view c) (hostWrite address v)) 7) formed
+refused-alike c (advance n) formed = ap (λ (t : Bool). cond t (refusal (view c) (advance n)) 7) formed
+refused-alike c (takeFrame buffer) formed = ap (λ (t : Bool). cond t (refusal (view c) (takeFrame buffer)) 7) formed
+refused-alike c (deliver bytes parities lastBits) formed = ap (λ (t : Bool). cond t (refusal (view c) (deliver bytes parities lastBits)) 7) formed
+
+-- What a call on a well-formed chip gives is what the definition gives.
+record Performed (c : Chip) (call : Call) (d : Chip) (answer : Answer) (buffer : List ℕ) : Type 0 where
+  machine : view d ≡ perform (view c) call .next
+  formed : chipFormed d ≡ true
+  answered : answer ≡ perform (view c) call .answer
+  lent : buffer ≡ perform (view c) call .buffer
+
+performed : {c d : Chip} {call : Call} {answer : Answer} {buffer : List ℕ} → Meets c call d answer buffer → chipFormed c ≡ true → Performed c call d answer buffer
+performed {c} {d} {call} {answer} {buffer} meets formed = go (refusal (view c) call) refl
+  where
+    go : (n : ℕ) → refusal (view c) call ≡ n → Performed c call d answer buffer
+    go zero is =
+        let given = meets .accepts (refused-alike c call formed ∙ is) in
+        let same = sym (as-accepted (view c) call is) in
+        record {
+          machine = given .1 ∙ ap (λ (o : Outcome). o .next) same;
+          formed = given .3;
+          answered = given .0 ∙ ap (λ (o : Outcome). o .answer) same;
+          lent = given .2 ∙ ap (λ (o : Outcome). o .buffer) same;
+        }
+    go (suc n) is =
+        let given = meets .refuses n (refused-alike c call formed ∙ is) in
+        let nothing = well-formedness .refused-changes-nothing (view c) call n is in
+        record {
+          machine = ap view (given .1) ∙ sym (nothing .0);
+          formed = ap chipFormed (given .1) ∙ formed;
+          answered = given .0 ∙ sym (nothing .2);
+          lent = given .2 ∙ sym (nothing .1);
+        }
+
+-- After a run.
+record Ran (s : Both) (steps : List Step) (z : Chip) : Type 0 where
+  machine : view z ≡ after s (callsOf steps) .machine
+  formed : chipFormed z ≡ true
+  defined : AsDefined (s .machine) steps
+
+ran : {c z : Chip} {steps : List Step} → Run c steps z → (s : Both) → view c ≡ s .machine → chipFormed c ≡ true → Ran s steps z
+unfolding after AsDefined
+ran end s same formed = record { machine = same; formed = formed; defined = tt }
+ran (next {s = x} meets rest) s same formed =
+    let p = performed meets formed in
+    let r = ran rest (called (x .call) s) (p .machine ∙ ap (λ (m : Machine). perform m (x .call) .next) same) (p .formed) in
+    record {
+      machine = r .machine;
+      formed = r .formed;
+      defined = (p .answered ∙ ap (λ (m : Machine). perform m (x .call) .answer) same, p .lent ∙ ap (λ (m : Machine). perform m (x .call) .buffer) same, r .defined);
+    }
+
+-- A start from a whole image is not refused.
+start-accepted : (c : Chip) (image : List ℕ) → length image ≡ 512 → chipRefusal c (start image) ≡ 0
+unfolding chipRefusal refusal
+start-accepted c image size = ap (λ (t : Bool). cond (not t) 2 0) (eq-eqb (length image) 512 size)
+
+kept : (image : List ℕ) → length image ≡ 512 → (old fresh c : Chip) (buffer : List ℕ) (steps : List Step) → Meets old (start image) fresh done buffer → Run fresh steps c → Kept image steps c
+unfolding after
+kept image size old fresh c buffer steps begins runs =
+    let first = begins .accepts (start-accepted old image size) in
+    let r = ran runs (record { machine = started image; journal = empty }) (first .1) (first .3) in
+    let same : _≡_ {A = Both} (run image (callsOf steps)) (record { machine = view c; journal = run image (callsOf steps) .journal }) =
+    ap (λ (m : Machine). record { machine = m; journal = run image (callsOf steps) .journal }) (sym (r .machine)) in
+    record {
+      same-machine = r .machine;
+      formed = r .formed;
+      as-defined = r .defined;
+      conserved = subst (Conserved image) same (demand-3 .conserved image size (callsOf steps));
+      next-call = subst NextCall same (demand-3 .next-call image size (callsOf steps));
+    }
+
+pub program-demand-3 : ProgramDemand3
+program-demand-3 = record { holds = kept }

@@ -3,13 +3,15 @@
 use mathlib.Core.Path.{_≡_, refl, sym, ap, _∙_, subst}
 use mathlib.Core.Bool.{Bool, true, false, cond}
 use mathlib.Core.List.{List, [], _∷_, _++_, append-nil}
-use Prim.Native.Nat.{ℕ, zero, suc, _+_, _%_, _<_, _≤_}
+use Prim.Native.Nat.{ℕ, zero, suc, _+_, _-_, _%_, _<_, _≤_}
 use native.Mathlib.Nat.{zero-add, not-suc-le-zero, le-of-suc-le-suc}
 use native.Mathlib.Numerals.{add-one}
 use native.Mathlib.Omega.{arith}
 use lib.Dec.{eqb}
 use lib.ListN.{length, getD, take, drop, set, length-drop, drop-of-length-le}
 use lib.Seq.{take-suc, take-suc-set, length-take-le, take-all, drop-cons, set-at, set-getD, getD-at, getD-take, getD-drop}
+use Rattle.crc.specs.Checksum.{tapsOf, absorbed, absorbedAll}
+use Rattle.crc.proofs.Laws.{next-byte, no-byte}
 use Rattle.machine.specs.Memory.{storedFrom, bytesFrom, overRegisters}
 use Rattle.chip.specs.View.{heldFrom}
 
@@ -54,6 +56,45 @@ latch-turn slots latch p i size small is =
     ∙ ap (λ (l : List ℕ). l ++ getD slots ((p + i) % 64) 0 ∷ []) is
     ∙ sym (held-next i slots p)
     ∙ ap (heldFrom slots p) (sym (add-one i))
+
+-- A byte of an array that is filled from the front.
+pub fill-turn : (xs bytes : List ℕ) (i b : ℕ) → i < length bytes → take i bytes ≡ take i xs → i < length xs → getD xs i 0 ≡ b → take (i + 1) (set bytes i b) ≡ take (i + 1) xs
+fill-turn xs bytes i b room is more value =
+    ap (λ (n : ℕ). take n (set bytes i b)) (add-one i)
+    ∙ take-suc-set bytes i b room
+    ∙ ap (λ (l : List ℕ). l ++ b ∷ []) is
+    ∙ ap (λ (x : ℕ). take i xs ++ x ∷ []) (sym value)
+    ∙ sym (take-next xs i more)
+
+pub held-length : (n : ℕ) (slots : List ℕ) (p : ℕ) → length (heldFrom slots p n) ≡ n
+unfolding heldFrom
+held-length zero slots p = refl
+held-length (suc n) slots p = ap suc (held-length n slots (p + 1))
+
+pub held-at : (n : ℕ) (slots : List ℕ) (p i : ℕ) → i < n → getD (heldFrom slots p n) i 0 ≡ getD slots ((p + i) % 64) 0
+unfolding heldFrom
+held-at zero slots p i h = absurd (not-suc-le-zero h)
+held-at (suc n) slots p zero h = let none : p ≡ p + 0 = omega arith in ap (λ (k : ℕ). getD slots (k % 64) 0) none
+held-at (suc n) slots p (suc i) h =
+    let on : p + 1 + i ≡ p + suc i = omega arith in
+    held-at n slots (p + 1) i (le-of-suc-le-suc h) ∙ ap (λ (k : ℕ). getD slots (k % 64) 0) on
+
+-- Positions that agree hold nothing.
+pub none-held : (slots : List ℕ) (p : ℕ) → heldFrom slots p ((p + 256 - p) % 256) ≡ []
+unfolding heldFrom
+none-held slots p = let none : (p + 256 - p) % 256 ≡ 0 = omega arith in ap (heldFrom slots p) none
+
+-- The next byte is absorbed, and the last.
+pub absorb-turn : (mode next : ℕ) (slots : List ℕ) (p n i : ℕ) → i < n →
+    absorbedAll mode (absorbed mode next (getD slots ((p + i) % 64) 0)) (drop (i + 1) (heldFrom slots p n)) ≡ absorbedAll mode next (drop i (heldFrom slots p n))
+absorb-turn mode next slots p n i h =
+    ap (λ (b : ℕ). absorbedAll mode (absorbed mode next b) (drop (i + 1) (heldFrom slots p n))) (sym (held-at n slots p i h))
+    ∙ next-byte (tapsOf mode) next (heldFrom slots p n) i (omega (arith, held-length n slots p))
+
+pub all-absorbed : (mode next : ℕ) (slots : List ℕ) (p n i : ℕ) → n ≤ i → i ≤ n → next ≡ absorbedAll mode next (drop i (heldFrom slots p n))
+all-absorbed mode next slots p n i most least =
+    let whole : length (heldFrom slots p n) ≡ i = held-length n slots p ∙ omega arith in
+    sym (no-byte (tapsOf mode) next (heldFrom slots p n)) ∙ ap (λ (k : ℕ). absorbedAll mode next (drop k (heldFrom slots p n))) whole
 
 -- Registers, Page positions skipped.
 pub over-length : (rs bs : List ℕ) (p : ℕ) → length (overRegisters p rs bs) ≡ length rs
@@ -124,3 +165,12 @@ module _ (rs eeprom : List ℕ) (a : ℕ) (size : length rs ≡ 32) (whole : len
       ∙ ap (λ (l : List ℕ). take 32 loaded ++ l) (drop-of-length-le rs {i = 32} (omega arith))
       ∙ append-nil (take 32 loaded)
       ∙ take-all 32 loaded (omega (arith, over-length rs (bytesFrom eeprom a 32) 0))
+
+-- A byte of the EEPROM from an address on.
+pub bytes-length : (eeprom : List ℕ) (a n : ℕ) → length eeprom ≡ 512 → a + n ≤ 512 → length (bytesFrom eeprom a n) ≡ n
+bytes-length eeprom a n whole inside = length-take-le n (drop a eeprom) (simp length-drop (omega arith))
+
+pub bytes-at : (eeprom : List ℕ) (a n i : ℕ) → a + n ≤ 512 → i < n → getD (bytesFrom eeprom a n) i 0 ≡ getD eeprom ((a + i) % 512) 0
+bytes-at eeprom a n i inside h =
+    let from : a + i ≡ (a + i) % 512 = omega arith in
+    getD-take n (drop a eeprom) i 0 h ∙ getD-drop a eeprom i 0 ∙ ap (λ (k : ℕ). getD eeprom k 0) from

@@ -52,3 +52,33 @@ pub fn load_registers(registers: &mut [u8; 32], eeprom: &[u8; 512], address: u16
         i += 1;
     }
 }
+
+// Twelve held bytes, the first from a position on.
+pub fn held_key(slots: &[u8; 64], position: u8) -> [u8; 12]
+    ensures { λ r. ⌜ r ≡ heldFrom (now (slots .entry)) position 12 ⌝ }
+{
+    let start = position as usize;
+    let mut bytes = [0u8; 12];
+    let mut i: usize = 0;
+    while i < 12 {
+        let from = (start + i) % 64;
+        bytes[i] = slots[from];
+        i += 1;
+    }
+    bytes
+}
+
+// Twelve bytes of the EEPROM from an address on.
+pub fn stored_key(eeprom: &[u8; 512], address: u16) -> [u8; 12]
+    ensures { λ r. ⌜ (length (now (eeprom .entry)) ≡ 512 → address + 12 ≤ 512 → r ≡ bytesFrom (now (eeprom .entry)) address 12) ⌝ }
+{
+    let start = address as usize;
+    let mut bytes = [0u8; 12];
+    let mut i: usize = 0;
+    while i < 12 {
+        let from = (start + i) % 512;
+        bytes[i] = eeprom[from];
+        i += 1;
+    }
+    bytes
+}

@@ -14,6 +14,7 @@ use Rattle.crc.specs.Checksum.{tapsOf, absorbed, absorbedAll}
 use Rattle.crc.proofs.Laws.{next-byte, no-byte}
 use Rattle.machine.specs.Memory.{storedFrom, bytesFrom, overRegisters}
 use Rattle.chip.specs.View.{heldFrom}
+use Rattle.chip.proofs.RingLaws.{held-length, held-at, held-last}
 
 -- The next byte behind those stored.
 store-next : (bs eeprom : List ℕ) (a b : ℕ) → storedFrom eeprom a (bs ++ b ∷ []) ≡ set (storedFrom eeprom a bs) (a + length bs) b
@@ -38,14 +39,7 @@ store-turn eeprom latch now a i size small inside is =
     ∙ sym (store-next (take i latch) eeprom a (getD latch i 0))
     ∙ ap (storedFrom eeprom a) (sym (take-next latch i (omega arith)))
 
--- The next held byte.
-held-next : (n : ℕ) (slots : List ℕ) (p : ℕ) → heldFrom slots p (suc n) ≡ heldFrom slots p n ++ getD slots ((p + n) % 64) 0 ∷ []
-unfolding heldFrom
-held-next zero slots p = let none : p ≡ p + 0 = omega arith in ap (λ (k : ℕ). getD slots (k % 64) 0 ∷ []) none
-held-next (suc n) slots p =
-    let on : p + 1 + n ≡ p + suc n = omega arith in
-    ap (λ (l : List ℕ). getD slots (p % 64) 0 ∷ l) (held-next n slots (p + 1) ∙ ap (λ (k : ℕ). heldFrom slots (p + 1) n ++ getD slots (k % 64) 0 ∷ []) on)
-
+-- The next byte is latched.
 pub latch-turn : (slots latch : List ℕ) (p i : ℕ) → length latch ≡ 16 → i < 16 → take i latch ≡ heldFrom slots p i →
     take (i + 1) (set latch (i % 16) (getD slots ((p + i) % 64) 0)) ≡ heldFrom slots p (i + 1)
 latch-turn slots latch p i size small is =
@@ -54,7 +48,7 @@ latch-turn slots latch p i size small is =
     ∙ ap (λ (n : ℕ). take (suc i) (set latch n (getD slots ((p + i) % 64) 0))) from
     ∙ take-suc-set latch i (getD slots ((p + i) % 64) 0) (omega arith)
     ∙ ap (λ (l : List ℕ). l ++ getD slots ((p + i) % 64) 0 ∷ []) is
-    ∙ sym (held-next i slots p)
+    ∙ sym (held-last slots p i)
     ∙ ap (heldFrom slots p) (sym (add-one i))
 
 -- A byte of an array that is filled from the front.
@@ -66,34 +60,16 @@ fill-turn xs bytes i b room is more value =
     ∙ ap (λ (x : ℕ). take i xs ++ x ∷ []) (sym value)
     ∙ sym (take-next xs i more)
 
-pub held-length : (n : ℕ) (slots : List ℕ) (p : ℕ) → length (heldFrom slots p n) ≡ n
-unfolding heldFrom
-held-length zero slots p = refl
-held-length (suc n) slots p = ap suc (held-length n slots (p + 1))
-
-pub held-at : (n : ℕ) (slots : List ℕ) (p i : ℕ) → i < n → getD (heldFrom slots p n) i 0 ≡ getD slots ((p + i) % 64) 0
-unfolding heldFrom
-held-at zero slots p i h = absurd (not-suc-le-zero h)
-held-at (suc n) slots p zero h = let none : p ≡ p + 0 = omega arith in ap (λ (k : ℕ). getD slots (k % 64) 0) none
-held-at (suc n) slots p (suc i) h =
-    let on : p + 1 + i ≡ p + suc i = omega arith in
-    held-at n slots (p + 1) i (le-of-suc-le-suc h) ∙ ap (λ (k : ℕ). getD slots (k % 64) 0) on
-
--- Positions that agree hold nothing.
-pub none-held : (slots : List ℕ) (p : ℕ) → heldFrom slots p ((p + 256 - p) % 256) ≡ []
-unfolding heldFrom
-none-held slots p = let none : (p + 256 - p) % 256 ≡ 0 = omega arith in ap (heldFrom slots p) none
-
 -- The next byte is absorbed, and the last.
 pub absorb-turn : (mode next : ℕ) (slots : List ℕ) (p n i : ℕ) → i < n →
     absorbedAll mode (absorbed mode next (getD slots ((p + i) % 64) 0)) (drop (i + 1) (heldFrom slots p n)) ≡ absorbedAll mode next (drop i (heldFrom slots p n))
 absorb-turn mode next slots p n i h =
-    ap (λ (b : ℕ). absorbedAll mode (absorbed mode next b) (drop (i + 1) (heldFrom slots p n))) (sym (held-at n slots p i h))
-    ∙ next-byte (tapsOf mode) next (heldFrom slots p n) i (omega (arith, held-length n slots p))
+    ap (λ (b : ℕ). absorbedAll mode (absorbed mode next b) (drop (i + 1) (heldFrom slots p n))) (sym (held-at slots p n i h))
+    ∙ next-byte (tapsOf mode) next (heldFrom slots p n) i (omega (arith, held-length slots p n))
 
 pub all-absorbed : (mode next : ℕ) (slots : List ℕ) (p n i : ℕ) → n ≤ i → i ≤ n → next ≡ absorbedAll mode next (drop i (heldFrom slots p n))
 all-absorbed mode next slots p n i most least =
-    let whole : length (heldFrom slots p n) ≡ i = held-length n slots p ∙ omega arith in
+    let whole : length (heldFrom slots p n) ≡ i = held-length slots p n ∙ omega arith in
     sym (no-byte (tapsOf mode) next (heldFrom slots p n)) ∙ ap (λ (k : ℕ). absorbedAll mode next (drop k (heldFrom slots p n))) whole
 
 -- Registers, Page positions skipped.

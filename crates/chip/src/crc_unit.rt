@@ -8,6 +8,8 @@ ghost use Rattle.chip.specs.View.{heldFrom, viewOf};
 ghost use Rattle.chip.specs.Turns.{TurnsBy};
 use crate::Checksum;
 use crate::Core;
+use crate::fifo::emptied;
+use crate::fifo::held;
 
 // CalcCRC starts: it reads its mode and presets.
 pub fn started(core: Core, registers: &[u8; 32]) -> Core
@@ -46,16 +48,12 @@ pub fn taken(core: Core, slots: &[u8; 64]) -> Core
     ensures { λ r. ⌜ ((registers latch key eeprom : List ℕ) → viewOf r (now (slots .entry)) registers latch key eeprom ≡ checksumTaken (viewOf core (now (slots .entry)) registers latch key eeprom)) ⌝ }
 {
     let ring = core.ring;
-    let held = std::num::wrapping_sub_u8(ring.write, ring.read);
     let old = core.checksum;
     let unit = Checksum {
-        register: absorbed(slots, ring.read, held, old.mode, old.register),
+        register: absorbed(slots, ring.read, held(core), old.mode, old.register),
         mode: old.mode,
     };
-    let mut empty = ring;
-    empty.read = ring.write;
-    let mut next = core;
+    let mut next = emptied(core);
     next.checksum = unit;
-    next.ring = empty;
     next
 }

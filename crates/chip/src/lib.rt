@@ -3,6 +3,7 @@
 // A flag is a byte that is 0 or 1. Names are the data sheet's. specs/View.antt says which machine a chip is.
 
 mod crc_unit;
+mod fifo;
 mod memory;
 
 // The FIFO's eight-bit read and write positions; slot = position mod 64, held count = their wrapped difference.

@@ -7,7 +7,8 @@ use native.Mathlib.Omega.{arith}
 use lib.ListN.{length, take, length-set}
 use lib.Seq.{take-all}
 use Rattle.chip.specs.View.{heldFrom}
-use Rattle.chip.proofs.CopyLaws.{fill-turn, held-length, held-at}
+use Rattle.chip.proofs.CopyLaws.{fill-turn}
+use Rattle.chip.proofs.RingLaws.{held-length, held-at}
 use Rattle.chip.proofs.memory.held_key.Statement.{statement}
 use Rattle.chip.proofs.memory.held_key.Tie as tie
 
@@ -41,8 +42,8 @@ loop-again c =
     let a = turn .before .args in (
       search needs,
       simp length-set (turn .loop .inv .1),
-      fill-turn (heldFrom (a .slots .now) (a .position) 12) (turn .loop .bytes) (turn .loop .i) _ (omega arith) (turn .loop .inv .2) (omega (arith, held-length 12 (a .slots .now) (a .position)))
-          (held-at 12 (a .slots .now) (a .position) (turn .loop .i) (search needs)),
+      fill-turn (heldFrom (a .slots .now) (a .position) 12) (turn .loop .bytes) (turn .loop .i) _ (omega arith) (turn .loop .inv .2) (omega (arith, held-length (a .slots .now) (a .position) 12))
+          (held-at (a .slots .now) (a .position) 12 (turn .loop .i) (search needs)),
     )
 
 returns : tie.Need-returns Inv-loop μ-loop
@@ -52,7 +53,7 @@ returns c =
     let all : end .loop .i ≡ 12 = omega arith in
     sym (take-all 12 (end .loop .bytes) (omega arith))
     ∙ subst (λ (n : ℕ). take n (end .loop .bytes) ≡ take n (heldFrom (a .slots .now) (a .position) 12)) all (end .loop .inv .2)
-    ∙ take-all 12 (heldFrom (a .slots .now) (a .position) 12) (omega (arith, held-length 12 (a .slots .now) (a .position)))
+    ∙ take-all 12 (heldFrom (a .slots .now) (a .position) 12) (omega (arith, held-length (a .slots .now) (a .position) 12))
 
 pub held-key-spec : {M : Type 1} → statement M
 held-key-spec =

@@ -1,0 +1,39 @@
+-- `chip::fifo::alerted` meets its contract: the machine's requests, alert by alert. Assumes nothing.
+use mathlib.Core.Path.{ap, _∙_}
+use mathlib.Core.Bool.{not, _&&_}
+use Rattle.machine.specs.State.{Interrupts, withRequests}
+use Rattle.chip.specs.View.{viewOf}
+use Rattle.chip.proofs.RingLaws.{alerts-marked, alerted-newly}
+use borrow.Author.Needs.{needs}
+use Rattle.chip.proofs.fifo.alerted.Statement.{statement}
+use Rattle.chip.proofs.fifo.alerted.Tie as tie
+
+low-requires : tie.Need-low-requires
+low-requires c κs = search needs
+
+requested-requires : tie.Need-requested-requires
+requested-requires c κs = search needs
+
+high-requires : tie.Need-high-requires
+high-requires c κs = search needs
+
+requested-requires-2 : tie.Need-requested-requires-2
+requested-requires-2 c κs = search needs
+
+returns : tie.Need-returns
+unfolding viewOf
+returns c b was-low was-high slots latch key eeprom =
+    let call-high = c .before in
+    let first = call-high .before in
+    let call-low = first .before in
+    let a = call-low .before .before .args in
+    let after = viewOf (a .core) slots (a .registers .now) latch key eeprom in
+    let low = not (a .was-low) && call-low .low .result in
+    let high = not (a .was-high) && call-high .high .result in
+    ap (λ (r : Interrupts). withRequests r after)
+    (alerts-marked low high (a .core .interrupts .requests) (first .requested .result) (c .requested2 .result) (first .requested .ensures) (c .requested2 .ensures))
+    ∙ alerted-newly b after low high (cc (call-low .low .ensures slots latch key eeprom)) (cc (call-high .high .ensures slots latch key eeprom))
+
+pub alerted-spec : {M : Type 1} → statement M
+alerted-spec =
+    tie.close (tie.spec low-requires requested-requires high-requires requested-requires-2 returns)

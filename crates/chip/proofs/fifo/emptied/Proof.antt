@@ -1,0 +1,19 @@
+-- `chip::fifo::emptied` meets its contract: its positions are the same. Assumes nothing.
+use mathlib.Core.Path.{ap}
+use mathlib.Core.List.{List}
+use Prim.Native.Nat.{ℕ}
+use native.Mathlib.Omega.{arith}
+use Rattle.machine.specs.State.{withHeld}
+use Rattle.chip.specs.View.{viewOf}
+use Rattle.chip.proofs.RingLaws.{held-none}
+use Rattle.chip.proofs.fifo.emptied.Statement.{statement}
+use Rattle.chip.proofs.fifo.emptied.Tie as tie
+
+returns : tie.Need-returns
+unfolding viewOf
+returns c slots registers latch key eeprom =
+    let core = c .before .args .core in
+    ap (λ (l : List ℕ). withHeld l (viewOf core slots registers latch key eeprom)) (held-none slots (core .ring .write) _ (omega arith))
+
+pub emptied-spec : {M : Type 1} → statement M
+emptied-spec = tie.close (tie.spec returns)

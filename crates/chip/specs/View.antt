@@ -106,14 +106,13 @@ writingAgrees code w =
     (eqb (w .latched) 0 && (isFlag (w .addressed) && (eqb code 0x01 || eqb (w .addressed) 0)))
     (leb (w .latched) 16 && (isSet (w .addressed) && eqb code 0x01))
 
--- "bits that always read 0 are 0", of the fields that a machine has as flags, and of RxLastBits.
+-- "bits that always read 0 are 0", of the fields that a machine has as flags.
 abbrev pub bitsAgree : Core → Bool
 bitsAgree c =
     ltb (c .interrupts .enables) 64
     && (ltb (c .interrupts .requests) 64
     && (eqb (bit (c .errors) 7 + (bit (c .errors) 2 + bit (c .errors) 0)) 0
-    && (ltb (c .«rx_last_bits») 8
-    && (isFlag (c .timer .running) && isFlag (c .«key_loaded»)))))
+    && (isFlag (c .timer .running) && isFlag (c .«key_loaded»))))
 
 abbrev pub fieldsFormed : Core → Bool
 fieldsFormed c = listed (c .command) && (flowAgrees (c .command) (c .sending) (c .receiving) && (writingAgrees (c .command) (c .writing) && bitsAgree c))

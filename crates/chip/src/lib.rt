@@ -4,6 +4,7 @@
 
 mod crc_unit;
 mod fifo;
+mod formed;
 mod memory;
 
 // The FIFO's eight-bit read and write positions; slot = position mod 64, held count = their wrapped difference.

@@ -15,37 +15,30 @@ use Rattle.machine.specs.Fifo.{firstOf, alerted}
 use Rattle.machine.specs.Memory.{storedFrom, programmingClocks}
 use Rattle.machine.specs.Frames.{frameSent, crcBytes}
 use Rattle.machine.specs.Registers.{mapped, registerRead}
-use Rattle.machine.specs.WellFormed.{wellFormed, fifoFormed, timerFormed, commandFormed, nothingPends, checksumFormed, bitsFormed}
+use Rattle.machine.specs.WellFormed.{wellFormed, fifoFormed, timerFormed, commandFormed}
 use Rattle.machine.specs.Refusals.{Call, start, hostRead, hostWrite, advance, takeFrame, deliver, refusal, clockLimit}
 use Rattle.machine.specs.Events.{Outcome, Answer, accepted, perform, refused, bufferOf, written, readByte, afterRead, advanced, taken, delivered, bufferTaken, byte, clocks}
-use Rattle.machine.proofs.Performing.{as-accepted}
+use Rattle.machine.proofs.Performing.{as-accepted, passed-test, not-false}
+use Rattle.machine.proofs.WellFormed.Parts.{each}
 use Rattle.journal.specs.Entries as e
 use Rattle.journal.specs.Entries.{collect, keyBytes}
 use Rattle.journal.specs.Journal.{Journal, enterAccepted, enter, leaveFrom, leave, Both}
 use Rattle.journal.specs.Demand.{run, NextCall, Demand3}
 use Rattle.journal.proofs.Agreement.{Agrees, AgreesWith, PlaceIs}
-use Rattle.journal.proofs.Run.{passed-test, not-false, run-agrees, conserved}
+use Rattle.journal.proofs.Run.{run-agrees, conserved}
 use Rattle.journal.proofs.Keys.{Keyless, Judged, nothing, twelve, KeyCall, key-none, offers-keyless, leave-keyless, all-keyless, clocks-keyless, written-keys}
 use Rattle.journal.proofs.Programming.{stored-at, finishes}
-
-and-first : (s t : Bool) → (s && t) ≡ true → s ≡ true
-and-first true t h = refl
-and-first false t h = h
-
-and-rest : (s t : Bool) → (s && t) ≡ true → t ≡ true
-and-rest true t h = h
-and-rest false t h = absurd (false≢true h)
 
 command-formed : (m : Machine) → wellFormed m ≡ true → commandFormed (m .command) ≡ true
 unfolding wellFormed
 command-formed m h =
-    let after = nothingPends (m .command) (m .held) && (checksumFormed (m .checksum) && bitsFormed (m .page) (m .status .control)) in
-    and-first (commandFormed (m .command)) after (and-rest (timerFormed (m .timer)) (commandFormed (m .command) && after) (and-rest (fifoFormed (m .held)) (timerFormed (m .timer) && (commandFormed (m .command) && after)) h))
+    let (fifo, h₁) = each (fifoFormed (m .held)) _ h in
+    let (timed, h₂) = each (timerFormed (m .timer)) _ h₁ in each (commandFormed (m .command)) _ h₂ .0
 
 -- A programming of a well-formed machine has a clock left.
 clocks-left : (s left : ℕ) (bs : List ℕ) → commandFormed (WriteE2 (programming s bs left)) ≡ true → 1 ≤ left
 clocks-left s left bs h =
-    leb-true 1 left (and-first (leb 1 left) (leb left programmingClocks && (leb 1 (length bs) && (leb (s % 16 + length bs) 16 && (leb 0x10 s && ltb s 0x200)))) h)
+    leb-true 1 left (each (leb 1 left) _ h .0)
 
 module _ (image : List ℕ) where
   -- Every call enters no key byte, or twelve that are judged.

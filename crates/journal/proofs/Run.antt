@@ -16,6 +16,7 @@ use Rattle.machine.specs.Frames.{sending, receiving, frameSent}
 use Rattle.machine.specs.Registers.{mapped, registerRead}
 use Rattle.machine.specs.WellFormed.{wellFormed}
 use Rattle.machine.specs.Refusals.{Call, start, hostRead, hostWrite, advance, takeFrame, deliver, refusal, refuseIf, frameFormed}
+use Rattle.machine.proofs.Performing.{passed-test, not-false}
 use Rattle.machine.specs.Events.{Outcome, accepted, perform, refused, bufferOf, started, written, readByte, afterRead, advanced, taken, delivered, bufferTaken, byte}
 use Rattle.machine.specs.Fifo.{alerted}
 use Rattle.journal.specs.Entries.{bytesOut, latestFrom, memoryFrom, collect}
@@ -26,14 +27,6 @@ use Rattle.journal.proofs.Agreement.{Agrees, AgreesWith}
 use Rattle.journal.proofs.Calls.{written-agrees, clocks-agree, read-agrees, sent-agrees, received-agrees, started-agrees}
 
 -- A test that refuses did not hold.
-pub passed-test : (t : Bool) (n rest : ℕ) → refuseIf t (suc n) rest ≡ 0 → (t ≡ false) × (rest ≡ 0)
-passed-test true n rest h = absurd (omega (arith, h))
-passed-test false n rest h = (refl, h)
-
-pub not-false : (t : Bool) → not t ≡ false → t ≡ true
-not-false true h = refl
-not-false false h = absurd (true≢false h)
-
 or-first : (s t : Bool) → (s || t) ≡ false → s ≡ false
 or-first true t h = h
 or-first false t h = refl

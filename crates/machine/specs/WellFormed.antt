@@ -69,9 +69,9 @@ nothingPends c held = leb (length held) (waits c)
 abbrev pub checksumFormed : Checksum → Bool
 checksumFormed c = cond (CRC8 (c .mode)) (ltb (c .register) 0x100) true
 
--- "bits that always read 0 are 0": Page bits 6-3, and Control but for bits 5 and 4.
-abbrev pub bitsFormed : ℕ → ℕ → Bool
-bitsFormed page control = eqb (page / 8 % 16) 0 && (eqb (control % 16) 0 && eqb (control / 64) 0)
+-- "bits that always read 0 are 0": Page bits 6-3, Control but for bits 5 and 4, and SecondaryStatus bits 4-3, above RxLastBits.
+abbrev pub bitsFormed : ℕ → ℕ → ℕ → Bool
+bitsFormed page control rxLastBits = eqb (page / 8 % 16) 0 && (eqb (control % 16) 0 && (eqb (control / 64) 0 && ltb rxLastBits 8))
 
 unfoldable pub wellFormed : Machine → Bool
 wellFormed m =
@@ -80,7 +80,7 @@ wellFormed m =
     && (commandFormed (m .command)
     && (nothingPends (m .command) (m .held)
     && (checksumFormed (m .checksum)
-    && bitsFormed (m .page) (m .status .control)))))
+    && bitsFormed (m .page) (m .status .control) (m .status .rxLastBits)))))
 
 -- What every chip's machine is by the types of its fields: bytes are bytes, and memories have their sizes. It is no part of refusal 7.
 abbrev pub latchedBytes : Command → List ℕ

@@ -1,6 +1,6 @@
 -- Each of the six events leads from a good machine to a good one.
 -- Assumes nothing.
-use Prim.Native.Nat.{ℕ, zero, suc, _+_, _-_, _%_, _<_}
+use Prim.Native.Nat.{ℕ, zero, suc, _+_, _-_, _%_, _<_, _≤_}
 use mathlib.Core.Path.{_≡_, refl, _∙_}
 use mathlib.Core.Bool.{true}
 use mathlib.Core.List.{List}
@@ -113,6 +113,6 @@ pub taken-good : (m : Machine) → Good m → Good (taken m)
 unfolding taken
 taken-good m (a, r) = alerted-good m _ (sent-good m a)
 
-pub delivered-good : (bytes parities : List ℕ) (lastBits : ℕ) (m : Machine) → Bytes bytes → Good m → Good (delivered bytes parities lastBits m)
+pub delivered-good : (bytes parities : List ℕ) (lastBits : ℕ) (m : Machine) → Bytes bytes → lastBits ≤ 7 → Good m → Good (delivered bytes parities lastBits m)
 unfolding delivered
-delivered-good bytes parities lastBits m w (a, r) = alerted-good m _ (received-good bytes parities lastBits m w a)
+delivered-good bytes parities lastBits m w few (a, r) = alerted-good m _ (received-good bytes parities lastBits m w few a)

@@ -1,9 +1,12 @@
 -- A frame that is sent and one that is received keep the machine well formed.
 -- Assumes nothing.
-use Prim.Native.Nat.{ℕ, _-_}
+use Prim.Native.Nat.{ℕ, _-_, _/_, _%_, _≤_}
 use mathlib.Core.Path.{refl}
 use mathlib.Core.List.{List, []}
+use native.Mathlib.Omega.{arith}
+use lib.Dec.{eqb}
 use lib.ListN.{length}
+use borrow.Author.Tests.{lt-ltb}
 use Rattle.bits.specs.Bits.{Bytes}
 use Rattle.bits.proofs.Bytes.{bytes-take}
 use Rattle.machine.specs.State.{Machine, Command, Idle, WriteE2, ReadE2, LoadConfig, LoadKeyE2, LoadKey, CalcCRC, Transmit, Receive, TransceiveSending, TransceiveReceiving, withHeld, withRxLastBits}
@@ -11,7 +14,7 @@ use Rattle.machine.specs.Fifo.{offeredAll}
 use Rattle.machine.specs.Timer.{TStartTxBegin, TStartTxEnd, TStopRx, timerStarted, timerStopped}
 use Rattle.machine.specs.Commands.{raisedTx, raisedRx}
 use Rattle.machine.specs.Frames.{crcWidth, txBegun, txEnded, afterSending, sent, parityFails, hasCrc, passed, crcFails, withFrameErrors, rxStopped, received}
-use Rattle.machine.proofs.WellFormed.Parts.{Almost, Good, either, new-command}
+use Rattle.machine.proofs.WellFormed.Parts.{Almost, Good, either, both, each, new-bits, new-command}
 use Rattle.machine.proofs.WellFormed.Timer.{started-almost, stopped-almost}
 use Rattle.machine.proofs.WellFormed.Fifo.{no-bytes, emptied, all-offered, ended-good}
 
@@ -45,10 +48,15 @@ passed-bytes : (m : Machine) (bytes : List ℕ) (lastBits : ℕ) → Bytes bytes
 passed-bytes m bytes lastBits w = either Bytes (hasCrc m bytes lastBits) _ bytes (bytes-take (length bytes - crcWidth m) bytes w) w
 
 -- A delivery may stop the timer, offers its bytes and ends.
-pub received-good : (bytes parities : List ℕ) (lastBits : ℕ) (m : Machine) → Bytes bytes → Almost m → Good (received bytes parities lastBits m)
+pub received-good : (bytes parities : List ℕ) (lastBits : ℕ) (m : Machine) → Bytes bytes → lastBits ≤ 7 → Almost m → Good (received bytes parities lastBits m)
 unfolding received
-received-good bytes parities lastBits m w a =
+received-good bytes parities lastBits m w few a =
     let heard = withRxLastBits lastBits (withFrameErrors (crcFails m bytes lastBits) (parityFails m bytes parities lastBits) (rxStopped m)) in
-    let h : Almost heard = either Almost (TStopRx m) (timerStopped m) m (stopped-almost m a) a in
+    let stopped = rxStopped m in
+    let s : Almost stopped = either Almost (TStopRx m) (timerStopped m) m (stopped-almost m a) a in
+    let (page, more) = each (eqb (stopped .page / 8 % 16) 0) _ (s .bits) in
+    let (low, most) = each (eqb (stopped .status .control % 16) 0) _ more in
+    let (high, old) = each (eqb (stopped .status .control / 64) 0) _ most in
+    let h : Almost heard = new-bits s (stopped .page) (stopped .status .control) lastBits (both page (both low (both high (lt-ltb lastBits 8 (omega arith))))) in
     let frame = passed m bytes lastBits in
     ended-good (raisedRx (offeredAll frame heard)) (all-offered frame heard (passed-bytes m bytes lastBits w) h)

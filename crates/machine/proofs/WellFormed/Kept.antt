@@ -4,33 +4,34 @@ use Prim.Native.Nat.{ℕ, suc}
 use mathlib.Core.Path.{_≡_, refl}
 use mathlib.Core.Bool.{Bool, true, false, cond, not}
 use mathlib.Core.List.{List, [], _∷_}
-use native.Mathlib.Omega.{arith}
-use lib.Dec.{eqb, eqb·suc-zero}
+use lib.Dec.{leb, eqb, eqb·suc-zero}
 use lib.ListN.{length}
 use borrow.Author.Tests.{eqb-true, leb-true}
 use Rattle.machine.specs.State.{Machine}
 use Rattle.machine.specs.Registers.{mapped}
 use Rattle.machine.specs.WellFormed.{wellFormed, fifoFormed}
-use Rattle.machine.specs.Refusals.{Call, start, hostRead, hostWrite, advance, takeFrame, deliver, ByteCall, refusal}
+use Rattle.machine.specs.Refusals.{Call, start, hostRead, hostWrite, advance, takeFrame, deliver, ByteCall, allBits, frameFormed, refusal}
 use Rattle.machine.specs.Events.{Outcome, refused, bufferOf, accepted, perform, afterCalls, afterRead, started}
 use Rattle.machine.specs.WellFormedness.{Formed, EachByteCall, WellFormedness}
 use Rattle.machine.proofs.WellFormed.Parts.{Good, by-cond, each, good-formed, formed-good}
+use Rattle.machine.proofs.Performing.{passed-test, not-false}
 use Rattle.machine.proofs.WellFormed.Events.{started-good, written-good, after-read-good, advanced-good, taken-good, delivered-good}
-
--- A start that is not refused has an image of 512 bytes.
-image-sized : (t : Bool) → cond {A = ℕ} (not t) 2 0 ≡ 0 → t ≡ true
-image-sized true h = refl
-image-sized false h = absurd (omega arith)
 
 -- A call that is not refused leads to a good machine.
 accepted-good : (m : Machine) (c : Call) → ByteCall c → refusal m c ≡ 0 → Good m → Good (accepted m c .next)
 unfolding refusal
-accepted-good m (start image) w e g = started-good image w (eqb-true (length image) 512 (image-sized (eqb (length image) 512) e))
+accepted-good m (start image) w e g = started-good image w (eqb-true (length image) 512 (not-false _ (passed-test (not (eqb (length image) 512)) 1 0 e .0)))
 accepted-good m (hostRead address) w e g = after-read-good address m g
 accepted-good m (hostWrite address v) w e g = written-good address v m w g
 accepted-good m (advance n) w e g = advanced-good n m g
 accepted-good m (takeFrame buffer) w e g = taken-good m g
-accepted-good m (deliver bytes parities lastBits) w e g = delivered-good bytes parities lastBits m w g
+accepted-good m (deliver bytes parities lastBits) w e g =
+    let tests = passed-test (not (wellFormed m)) 6 _ e in
+    let formed = not-false (frameFormed bytes parities lastBits) (passed-test (not (frameFormed bytes parities lastBits)) 4 _ (tests .1) .0) in
+    let (some, h₁) = each (leb 1 (length bytes)) _ formed in
+    let (most, h₂) = each (leb (length bytes) 64) _ h₁ in
+    let (same, h₃) = each (eqb (length parities) (length bytes)) _ h₂ in
+    let (flags, few) = each (allBits parities) _ h₃ in delivered-good bytes parities lastBits m w (leb-true lastBits 7 few) g
 
 -- Any call.
 kept : (m : Machine) (c : Call) → ByteCall c → Formed m → Formed (perform m c .next)

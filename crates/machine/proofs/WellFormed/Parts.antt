@@ -44,8 +44,8 @@ pub record Memory (n : ℕ) (bs : List ℕ) : Type 0 where
   pub count : length bs ≡ n
 
 -- The parts, without what the command asks of the waiting bytes.
-pub record Parts (page control : ℕ) (c : Command) (bs : List ℕ) (t : Timer) (s : Checksum) (rs es : List ℕ) : Type 0 where
-  pub bits : bitsFormed page control ≡ true
+pub record Parts (page control last : ℕ) (c : Command) (bs : List ℕ) (t : Timer) (s : Checksum) (rs es : List ℕ) : Type 0 where
+  pub bits : bitsFormed page control last ≡ true
   pub command : Active c
   pub held : Waiting bs
   pub timer : timerFormed t ≡ true
@@ -55,7 +55,7 @@ pub record Parts (page control : ℕ) (c : Command) (bs : List ℕ) (t : Timer) 
 
 -- A machine that is well formed but for waiting bytes that its command could take.
 abbrev pub Almost : Machine → Type 0
-Almost m = Parts (m .page) (m .status .control) (m .command) (m .held) (m .timer) (m .checksum) (m .registers) (m .eeprom)
+Almost m = Parts (m .page) (m .status .control) (m .status .rxLastBits) (m .command) (m .held) (m .timer) (m .checksum) (m .registers) (m .eeprom)
 
 -- The same under a name that does not compute, for long chains of choices.
 pub record Kept (m : Machine) : Type 0 where
@@ -116,24 +116,24 @@ formed-good m f =
     )
 
 -- One part is changed, the others stay.
-module _ {page control : ℕ} {c : Command} {bs : List ℕ} {t : Timer} {s : Checksum} {rs es : List ℕ} (p : Parts page control c bs t s rs es) where
-  pub new-bits : (page′ control′ : ℕ) → bitsFormed page′ control′ ≡ true → Parts page′ control′ c bs t s rs es
-  new-bits page′ control′ h = record { bits = h; command = p .command; held = p .held; timer = p .timer; checksum = p .checksum; registers = p .registers; eeprom = p .eeprom }
+module _ {page control last : ℕ} {c : Command} {bs : List ℕ} {t : Timer} {s : Checksum} {rs es : List ℕ} (p : Parts page control last c bs t s rs es) where
+  pub new-bits : (page′ control′ last′ : ℕ) → bitsFormed page′ control′ last′ ≡ true → Parts page′ control′ last′ c bs t s rs es
+  new-bits page′ control′ last′ h = record { bits = h; command = p .command; held = p .held; timer = p .timer; checksum = p .checksum; registers = p .registers; eeprom = p .eeprom }
 
-  pub new-command : (c′ : Command) → commandFormed c′ ≡ true → Bytes (latchedBytes c′) → Parts page control c′ bs t s rs es
+  pub new-command : (c′ : Command) → commandFormed c′ ≡ true → Bytes (latchedBytes c′) → Parts page control last c′ bs t s rs es
   new-command c′ h w = record { bits = p .bits; command = record { formed = h; latched = w }; held = p .held; timer = p .timer; checksum = p .checksum; registers = p .registers; eeprom = p .eeprom }
 
-  pub new-held : (bs′ : List ℕ) → length bs′ ≤ 64 → Bytes bs′ → Parts page control c bs′ t s rs es
+  pub new-held : (bs′ : List ℕ) → length bs′ ≤ 64 → Bytes bs′ → Parts page control last c bs′ t s rs es
   new-held bs′ h w = record { bits = p .bits; command = p .command; held = record { fits = h; bytes = w }; timer = p .timer; checksum = p .checksum; registers = p .registers; eeprom = p .eeprom }
 
-  pub new-timer : (t′ : Timer) → timerFormed t′ ≡ true → Parts page control c bs t′ s rs es
+  pub new-timer : (t′ : Timer) → timerFormed t′ ≡ true → Parts page control last c bs t′ s rs es
   new-timer t′ h = record { bits = p .bits; command = p .command; held = p .held; timer = h; checksum = p .checksum; registers = p .registers; eeprom = p .eeprom }
 
-  pub new-checksum : (s′ : Checksum) → checksumFormed s′ ≡ true → Parts page control c bs t s′ rs es
+  pub new-checksum : (s′ : Checksum) → checksumFormed s′ ≡ true → Parts page control last c bs t s′ rs es
   new-checksum s′ h = record { bits = p .bits; command = p .command; held = p .held; timer = p .timer; checksum = h; registers = p .registers; eeprom = p .eeprom }
 
-  pub new-registers : (rs′ : List ℕ) → Bytes rs′ → length rs′ ≡ 32 → Parts page control c bs t s rs′ es
+  pub new-registers : (rs′ : List ℕ) → Bytes rs′ → length rs′ ≡ 32 → Parts page control last c bs t s rs′ es
   new-registers rs′ w h = record { bits = p .bits; command = p .command; held = p .held; timer = p .timer; checksum = p .checksum; registers = record { bytes = w; count = h }; eeprom = p .eeprom }
 
-  pub new-eeprom : (es′ : List ℕ) → Bytes es′ → length es′ ≡ 512 → Parts page control c bs t s rs es′
+  pub new-eeprom : (es′ : List ℕ) → Bytes es′ → length es′ ≡ 512 → Parts page control last c bs t s rs es′
   new-eeprom es′ w h = record { bits = p .bits; command = p .command; held = p .held; timer = p .timer; checksum = p .checksum; registers = p .registers; eeprom = record { bytes = w; count = h } }

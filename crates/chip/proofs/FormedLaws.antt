@@ -1,0 +1,74 @@
+-- Laws for judging a state from the core alone: tests that are joined, the count of held bytes, and what most commands share.
+-- Assumes nothing.
+use Prim.Native.Nat.{ℕ, _*_, _%_, _^_, _≤_}
+use native.Mathlib.Nat.{one-mul}
+use native.Mathlib.Omega.{arith}
+use mathlib.Core.Path.{_≡_, refl, ap, _∙_}
+use mathlib.Core.Bool.{Bool, true, false, cond, _&&_}
+use mathlib.Core.List.{List}
+use lib.Dec.{ltb, leb, eqb}
+use lib.ListN.{length}
+use lib.Pow.{shl-exact}
+use borrow.Author.Tests.{ne-eqb, leb-true, eqb-true}
+use Rattle.machine.specs.State as m
+use Rattle.machine.specs.State.{Command}
+use Rattle.machine.specs.WellFormed.{commandFormed, waits}
+use Rattle.machine.proofs.WellFormed.Parts.{either, each}
+use Rattle.chip.specs.View.{heldFrom, isSet, commandOf, listed, flowAgrees, writingAgrees, fieldsFormed}
+use Rattle.chip.specs.declared.Core.{Core}
+use Rattle.chip.proofs.RingLaws.{held-length}
+
+-- Tests that are joined, each by its answer. The second may lean on the first.
+pub joined : {a b s t : Bool} → a ≡ s → b ≡ t → (a && b) ≡ (s && t)
+joined p q = rw (p, q)
+
+pub joined-if : {a : Bool} (b s t : Bool) → a ≡ s → (s ≡ true → b ≡ t) → (a && b) ≡ (s && t)
+joined-if b true t p q = joined p (q refl)
+joined-if b false t p q = rw p
+
+-- 2^prescaler, as a shift.
+pub one-shifted : (k : ℕ) → k ≤ 21 → 1 * 2 ^ k % 4294967296 ≡ 2 ^ k
+one-shifted k h = shl-exact 1 k 32 (omega arith) (omega arith) ∙ one-mul (2 ^ k)
+
+-- As many bytes are held as the positions say, whatever the slots are.
+pub held-most : (slots : List ℕ) (position n : ℕ) {held most limit : ℕ} → held ≡ n → most ≡ limit → leb held most ≡ leb (length (heldFrom slots position n)) limit
+held-most slots position n p q = rw (held-length, p, q)
+
+-- Every command but WriteE2 is well formed.
+pub others-formed : (code sends : ℕ) (w : m.Writing) → (code ≡ 0x01 → ⊥) → commandFormed (commandOf code sends w) ≡ true
+others-formed code sends w h =
+    let P : Command → Type 0 = λ c. commandFormed c ≡ true in
+    simp (ne-eqb code 0x01 h)
+    (either P (eqb code 0x03) _ _ refl
+    (either P (eqb code 0x07) _ _ refl
+    (either P (eqb code 0x0B) _ _ refl
+    (either P (eqb code 0x12) _ _ refl
+    (either P (eqb code 0x16) _ _ refl
+    (either P (eqb code 0x19) _ _ refl
+    (either P (eqb code 0x1A) _ _ refl
+    (either P (eqb code 0x1E) _ _ (either P (isSet sends) _ _ refl refl) refl))))))))
+
+-- Sixty-four bytes may wait under every code but six. The shape of the premise is that of a `match`'s last arm.
+pub others-wait : (code sends : ℕ) (w : m.Writing) →
+    ((((((Unit {0} × (code ≡ 0x01 → ⊥)) × (code ≡ 0x03 → ⊥)) × (code ≡ 0x07 → ⊥)) × (code ≡ 0x0B → ⊥)) × (code ≡ 0x12 → ⊥)) × (code ≡ 0x19 → ⊥)) →
+    waits (commandOf code sends w) ≡ 64
+others-wait code sends w ((((((u, a), b), d), e), f), g) =
+    let P : Command → Type 0 = λ c. waits c ≡ 64 in
+    simp (ne-eqb code 0x01 a, ne-eqb code 0x03 b, ne-eqb code 0x07 d, ne-eqb code 0x0B e, ne-eqb code 0x12 f, ne-eqb code 0x19 g)
+    (either P (eqb code 0x16) _ _ refl
+    (either P (eqb code 0x1A) _ _ refl
+    (either P (eqb code 0x1E) _ _ (either P (isSet sends) _ _ refl refl) refl)))
+
+-- Where the fields agree, at most sixteen bytes are latched, whether clocks are left or not.
+few : (t : Bool) (n : ℕ) (r s : Bool) → cond t (eqb n 0 && r) (leb n 16 && s) ≡ true → n ≤ 16
+few true n r s h = omega (arith, eqb-true n 0 (each (eqb n 0) r h .0))
+few false n r s h = leb-true n 16 (each (leb n 16) s h .0)
+
+pub few-latched : (c : Core) → fieldsFormed c ≡ true → c .writing .latched ≤ 16
+few-latched c h =
+    let w = c .writing in
+    let code = c .command in
+    let fields = each (listed code) _ h in
+    let flows = each (flowAgrees code (c .sending) (c .receiving)) _ (fields .1) in
+    let writes = each (writingAgrees code w) _ (flows .1) in
+    few (eqb (w .left) 0) (w .latched) _ _ (each (ltb (w .next) 0x200) _ (writes .0) .1)

@@ -1,3 +1,5 @@
 pub mod CopyLaws
+pub mod FlagLaws
 pub mod FormedLaws
 pub mod RingLaws
+pub mod TimerLaws

@@ -5,12 +5,12 @@ use borrow.Author.Tests.{lt-ltb, le-ltb, le-leb, lt-leb, leb-true, leb-false}
 use mathlib.Core.Path.{_≡_, refl, sym, ap, _∙_}
 use mathlib.Core.Bool.{Bool, true, false, cond, not, _&&_, _||_, or-false, or-true}
 use mathlib.Core.List.{List, [], _∷_, _++_}
-use Prim.Native.Nat.{ℕ, zero, suc, _+_, _-_, _%_, _/_, _^_, _<_, _≤_}
-use native.Mathlib.Nat.{le-of-suc-le-suc, not-suc-le-zero, mod-lt}
+use Prim.Native.Nat.{ℕ, zero, suc, _+_, _-_, _%_, _<_, _≤_}
+use native.Mathlib.Nat.{le-of-suc-le-suc, not-suc-le-zero}
 use native.Mathlib.Numerals.{add-one, unary-clauses}
 use native.Mathlib.Omega.{arith}
-use lib.Bits.{bitOr, or-shr, or-mod}
-use lib.Dec.{leb, eqb, lit<}
+use lib.Bits.{bitOr}
+use lib.Dec.{leb}
 use lib.ListN.{length, getD, drop, set}
 use lib.Seq.{getD-set-same, getD-set-other, ext-getD}
 use Rattle.bits.specs.Bits.{bitSet}
@@ -18,6 +18,7 @@ use Rattle.machine.specs.State.{Machine, withHeld, withRequests}
 use Rattle.machine.specs.Fifo.{firstOf, offered, withFifoOvfl, loAlert, hiAlert, alerted}
 use Rattle.chip.specs.declared.Ring.{Ring}
 use Rattle.chip.specs.View.{heldCount, heldFrom, heldOf, errorsOf, interruptsOf}
+use Rattle.chip.proofs.FlagLaws.{or-bit}
 
 -- So many bytes are held.
 pub held-length : (slots : List ℕ) (p n : ℕ) → length (heldFrom slots p n) ≡ n
@@ -143,28 +144,13 @@ high-level held level = go (leb (64 - level) held) refl
 abbrev pub marked : Bool → ℕ → ℕ → ℕ
 marked t mask x = cond t (bitOr x mask) x
 
--- A bit of an or, first of two digits.
-or-digits : (a b : ℕ) → a < 2 → b < 2 → eqb (bitOr a b) 1 ≡ (eqb a 1 || eqb b 1)
-or-digits zero zero l m = refl
-or-digits zero (suc zero) l m = refl
-or-digits (suc zero) zero l m = refl
-or-digits (suc zero) (suc zero) l m = refl
-or-digits (suc (suc a)) b l m = absurd (omega arith)
-or-digits zero (suc (suc b)) l m = absurd (omega arith)
-or-digits (suc zero) (suc (suc b)) l m = absurd (omega arith)
-
-or-bit : (x mask k : ℕ) → bitSet (bitOr x mask) k ≡ (bitSet x k || bitSet mask k)
-or-bit x mask k =
-    ap (λ (n : ℕ). eqb (n % 2) 1) (or-shr x mask k) ∙ ap (λ (n : ℕ). eqb n 1) (or-mod (x / 2 ^ k) (mask / 2 ^ k) 1)
-    ∙ or-digits (x / 2 ^ k % 2) (mask / 2 ^ k % 2) (mod-lt (x / 2 ^ k) (lit< tt)) (mod-lt (mask / 2 ^ k) (lit< tt))
-
 -- A bit that the mask has, and one that it has not.
 pub marked-own : (t : Bool) (mask x k : ℕ) → bitSet mask k ≡ true → bitSet (marked t mask x) k ≡ (bitSet x k || t)
-marked-own true mask x k own = or-bit x mask k ∙ ap (λ (b : Bool). bitSet x k || b) own
+marked-own true mask x k own = or-bit x mask k ∙ ap (λ (b : Bool). b || bitSet x k) own ∙ sym (or-true (bitSet x k))
 marked-own false mask x k own = sym (or-false (bitSet x k))
 
 pub marked-other : (t : Bool) (mask x k : ℕ) → bitSet mask k ≡ false → bitSet (marked t mask x) k ≡ bitSet x k
-marked-other true mask x k other = or-bit x mask k ∙ ap (λ (b : Bool). bitSet x k || b) other ∙ or-false (bitSet x k)
+marked-other true mask x k other = or-bit x mask k ∙ ap (λ (b : Bool). b || bitSet x k) other
 marked-other false mask x k other = refl
 
 -- FIFOOvfl is set in ErrorFlag, and no other flag.

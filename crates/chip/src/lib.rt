@@ -2,8 +2,10 @@
 //
 // A flag is a byte that is 0 or 1. Names are the data sheet's. specs/View.antt says which machine a chip is.
 
+mod clocks;
 mod crc_unit;
 mod fifo;
+mod flags;
 mod formed;
 mod memory;
 

@@ -1,0 +1,55 @@
+-- `clocks::clocked` meets its contract. One law for each way out; a prescaler above 31 is what the contract leaves out. Assumes nothing.
+use borrow.Author.Needs.{needs}
+use native.Mathlib.Omega.{arith}
+use Rattle.chip.proofs.TimerLaws.{clocks-some, clock-stays, clock-counts, clock-steps}
+use Rattle.chip.proofs.clocks.clocked.Statement.{statement}
+use Rattle.chip.proofs.clocks.clocked.Tie as tie
+
+returns : tie.Need-returns
+returns c = λ fits. clock-stays (c .before .before .args .registers .now) (c .before .before .args .core) (c .if1 .taken)
+
+returns-2 : tie.Need-returns-2
+returns-2 c = λ fits. absurd (omega arith)
+
+cast-clocks : tie.Need-cast-clocks
+cast-clocks c = search needs
+
+shl-clocks : tie.Need-shl-clocks
+shl-clocks c = search needs
+
+sub-if3 : tie.Need-sub-if3
+sub-if3 c = clocks-some _ (search needs)
+
+add-running-at : tie.Need-add-running-at
+add-running-at c = search needs
+
+running-at-requires : tie.Need-running-at-requires
+running-at-requires c κs = search needs
+
+returns-3 : tie.Need-returns-3
+returns-3 c = λ fits.
+    let start = c .before .before .before .before .before in
+    clock-counts (start .args .registers .now) (start .args .core) (c .running-at .result) (c .before .before .before .if1 .left) fits (c .before .if3 .taken) (c .running-at .ensures)
+
+stepped-requires : tie.Need-stepped-requires
+stepped-requires c κs = search needs
+
+returns-4 : tie.Need-returns-4
+returns-4 c = λ fits.
+    let start = c .before .before .before .before .before in
+    clock-steps (start .args .registers .now) (start .args .core) (c .stepped .result) (c .before .before .before .if1 .left) fits (c .before .if3 .left) (c .stepped .ensures)
+
+pub clocked-spec : {M : Type 1} → statement M
+clocked-spec =
+    tie.close
+    (tie.spec
+    returns
+    returns-2
+    cast-clocks
+    shl-clocks
+    sub-if3
+    add-running-at
+    running-at-requires
+    returns-3
+    stepped-requires
+    returns-4)

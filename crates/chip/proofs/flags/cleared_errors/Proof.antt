@@ -1,0 +1,14 @@
+-- `flags::cleared_errors` meets its contract. Bits 5, 3 and 1 are cleared. Assumes nothing.
+use borrow.Author.Needs.{needs}
+use Rattle.chip.proofs.FlagLaws.{errors-kept}
+use Rattle.chip.proofs.flags.cleared_errors.Statement.{statement}
+use Rattle.chip.proofs.flags.cleared_errors.Tie as tie
+
+with-errors-requires : tie.Need-with-errors-requires
+with-errors-requires c κs = search needs
+
+returns : tie.Need-returns
+returns c = errors-kept 0xD5 (c .before .before .args .core) (c .with-errors .result) (c .with-errors .ensures)
+
+pub cleared-errors-spec : {M : Type 1} → statement M
+cleared-errors-spec = tie.close (tie.spec with-errors-requires returns)

@@ -1,0 +1,17 @@
+-- `flags::ended` meets its contract. The code 0 is Idle, whatever a WriteE2 had reached. Assumes nothing.
+use borrow.Author.Needs.{needs}
+use mathlib.Core.Path.{ap}
+use Rattle.machine.specs.State.{Idle, withCommand}
+use Rattle.chip.specs.View.{viewOf}
+use Rattle.chip.proofs.flags.ended.Statement.{statement}
+use Rattle.chip.proofs.flags.ended.Tie as tie
+
+raised-idle-requires : tie.Need-raised-idle-requires
+raised-idle-requires c κs = search needs
+
+returns : tie.Need-returns
+unfolding viewOf
+returns c = λ slots registers latch key eeprom. ap (withCommand Idle) (c .raised-idle .ensures slots registers latch key eeprom)
+
+pub ended-spec : {M : Type 1} → statement M
+ended-spec = tie.close (tie.spec raised-idle-requires returns)

@@ -1,0 +1,20 @@
+-- `flags::requests_written` meets its contract. The byte becomes what its callee ensures. Assumes nothing.
+use borrow.Author.Needs.{needs}
+use Rattle.machine.specs.State.{withRequests}
+use Rattle.chip.specs.View.{viewOf}
+use Rattle.chip.proofs.FlagLaws.{turns-as}
+use Rattle.chip.proofs.flags.requests_written.Statement.{statement}
+use Rattle.chip.proofs.flags.requests_written.Tie as tie
+
+marked-bits-requires : tie.Need-marked-bits-requires
+marked-bits-requires c κs = search needs
+
+with-requests-requires : tie.Need-with-requests-requires
+with-requests-requires c κs = search needs
+
+returns : tie.Need-returns
+unfolding viewOf
+returns c = turns-as withRequests (c .before .before .args .core) (c .with-requests .result) (c .before .marked-bits .ensures) (c .with-requests .ensures)
+
+pub requests-written-spec : {M : Type 1} → statement M
+requests-written-spec = tie.close (tie.spec marked-bits-requires with-requests-requires returns)

@@ -1,0 +1,14 @@
+-- `flags::with_access_err` meets its contract. Bit 5 is set. Assumes nothing.
+use borrow.Author.Needs.{needs}
+use Rattle.chip.proofs.FlagLaws.{errors-set}
+use Rattle.chip.proofs.flags.with_access_err.Statement.{statement}
+use Rattle.chip.proofs.flags.with_access_err.Tie as tie
+
+with-errors-requires : tie.Need-with-errors-requires
+with-errors-requires c κs = search needs
+
+returns : tie.Need-returns
+returns c = errors-set 0x20 (c .before .before .args .core) (c .with-errors .result) (c .with-errors .ensures)
+
+pub with-access-err-spec : {M : Type 1} → statement M
+with-access-err-spec = tie.close (tie.spec with-errors-requires returns)

@@ -1,0 +1,12 @@
+-- `flags::with_enables` meets its contract. The byte of enables is the only one that changes. Assumes nothing.
+use mathlib.Core.Path.{refl}
+use Rattle.chip.specs.View.{viewOf}
+use Rattle.chip.proofs.flags.with_enables.Statement.{statement}
+use Rattle.chip.proofs.flags.with_enables.Tie as tie
+
+returns : tie.Need-returns
+unfolding viewOf
+returns c slots registers latch key eeprom = refl
+
+pub with-enables-spec : {M : Type 1} → statement M
+with-enables-spec = tie.close (tie.spec returns)

@@ -1,0 +1,21 @@
+-- `flags::with_fifo_ovfl` meets its contract. Bit 4 is set or cleared. Assumes nothing.
+use borrow.Author.Needs.{needs}
+use Rattle.chip.proofs.FlagLaws.{errors-set, errors-kept}
+use Rattle.chip.proofs.flags.with_fifo_ovfl.Statement.{statement}
+use Rattle.chip.proofs.flags.with_fifo_ovfl.Tie as tie
+
+with-errors-requires : tie.Need-with-errors-requires
+with-errors-requires c κs = search needs
+
+with-errors-requires-2 : tie.Need-with-errors-requires-2
+with-errors-requires-2 c κs = search needs
+
+returns : tie.Need-returns
+returns c = rw (c .before .before .if1 .taken) (errors-set 0x10 (c .before .before .before .args .core) (c .with-errors .result) (c .with-errors .ensures))
+
+returns-2 : tie.Need-returns-2
+returns-2 c = rw (c .before .before .if1 .left) (errors-kept 0xEF (c .before .before .before .args .core) (c .with-errors2 .result) (c .with-errors2 .ensures))
+
+pub with-fifo-ovfl-spec : {M : Type 1} → statement M
+with-fifo-ovfl-spec =
+    tie.close (tie.spec with-errors-requires with-errors-requires-2 returns returns-2)

@@ -1,0 +1,23 @@
+-- `flags::with_frame_errors` meets its contract. Bits 3 and 1 are set by what the two calls ensure of their masks. Assumes nothing.
+use borrow.Author.Needs.{needs}
+use Rattle.chip.proofs.FlagLaws.{frame-errors-set}
+use Rattle.chip.proofs.flags.with_frame_errors.Statement.{statement}
+use Rattle.chip.proofs.flags.with_frame_errors.Tie as tie
+
+masked-requires : tie.Need-masked-requires
+masked-requires c κs = search needs
+
+masked-requires-2 : tie.Need-masked-requires-2
+masked-requires-2 c κs = search needs
+
+with-errors-requires : tie.Need-with-errors-requires
+with-errors-requires c κs = search needs
+
+returns : tie.Need-returns
+returns c =
+    let start = c .before .before .before .before in
+    frame-errors-set (start .args .crc) (start .args .parity) _ _ (start .args .core) (c .with-errors .result) (c .before .before .before .masked .ensures) (c .before .before .masked2 .ensures) (c .with-errors .ensures)
+
+pub with-frame-errors-spec : {M : Type 1} → statement M
+with-frame-errors-spec =
+    tie.close (tie.spec masked-requires masked-requires-2 with-errors-requires returns)

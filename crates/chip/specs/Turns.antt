@@ -1,11 +1,12 @@
 -- What a function on a part of the chip promises: the view turns by a function of the machine, whatever the other parts are.
 -- Assumes nothing.
 use mathlib.Core.Path.{_≡_}
+use mathlib.Core.Bool.{true}
 use mathlib.Core.List.{List}
 use Prim.Native.Nat.{ℕ}
 use Rattle.machine.specs.State.{Machine}
 use Rattle.chip.specs.declared.Core.{Core}
-use Rattle.chip.specs.View.{viewOf}
+use Rattle.chip.specs.View.{viewOf, fieldsFormed}
 
 -- The core alone changes.
 abbrev pub Turns : (Machine → Machine) → Core → Core → Type 0
@@ -18,3 +19,7 @@ TurnsBy registers f c c′ = (slots latch key eeprom : List ℕ) → viewOf c′
 -- The core and the slots change.
 abbrev pub TurnsSlots : List ℕ → List ℕ → (Machine → Machine) → Core → Core → Type 0
 TurnsSlots slots slots′ f c c′ = (registers latch key eeprom : List ℕ) → viewOf c′ slots′ registers latch key eeprom ≡ f (viewOf c slots registers latch key eeprom)
+
+-- A core whose fields agree with each other stays one.
+abbrev pub Keeps : Core → Core → Type 0
+Keeps c c′ = fieldsFormed c ≡ true → fieldsFormed c′ ≡ true

@@ -1,6 +1,7 @@
 -- The starred numbers and the readings, by computation from the definitions.
 -- Assumes nothing.
 use mathlib.Core.Path.{refl}
+use lib.Count.{ones}
 use Rattle.crc.specs.Checksum.{afterBit, afterBits, afterByte, afterBytes}
 use Rattle.key.specs.Key.{stored, formatHolds, keyOf}
 use Rattle.profile.specs.Check.{firstRefusal, judged}
@@ -47,7 +48,7 @@ numbers-met =
     }
 
 pub readings-met : Readings
-unfolding afterBit afterBits afterByte afterBytes stored formatHolds keyOf firstRefusal judged offered offeredAll loAlert hiAlert alerted timerClock storedFrom overRegisters commandWritten stepped settled sent received anyParityWrong sameBytes registerRead registerWritten wellFormed allBits refusal started written readByte afterRead clock clocks advanced taken bufferTaken delivered perform afterCalls
+unfolding afterBit afterBits afterByte afterBytes stored formatHolds keyOf firstRefusal judged offered offeredAll loAlert hiAlert alerted timerClock storedFrom overRegisters commandWritten stepped settled sent received anyParityWrong sameBytes registerRead registerWritten wellFormed allBits refusal started written readByte afterRead clock clocks advanced taken bufferTaken delivered perform afterCalls ones
 readings-met =
     record {
       load-config-loads-anything = refl;
@@ -59,5 +60,22 @@ readings-met =
       prescaler-kept-6 = refl;
       first-byte-read = refl;
       length-read = refl;
+      length-read-3 = refl;
       programming-time = refl;
+      programming-begins = refl;
+      prescaler-3-not-at-15 = refl;
+      prescaler-3-at-16 = refl;
+      read-e2-bytes = refl;
+      start-loads = refl;
+      load-config-loads = refl;
+      frame-with-crc = refl;
+      frame-answer = refl;
+      frame-of-last-bits = refl;
+      frame-received = refl;
+      frame-errors = refl;
+      parity-wrong = refl;
+      crc-wrong = refl;
+      crc-wrong-dropped = refl;
+      short-frame = refl;
+      short-frame-passes = refl;
     }

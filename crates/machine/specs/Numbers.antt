@@ -1,4 +1,4 @@
--- Document 01, "Numbers to meet": those marked *, as one list under one statement. The list grows with the chip.
+-- Document 01, "Numbers to meet": those marked *, as one list under one statement.
 -- Assumes nothing.
 use Prim.Native.Nat.{ℕ, _/_, _%_}
 use mathlib.Core.Bool.{true, false}

@@ -3,18 +3,19 @@
 use mathlib.Core.Path.{_≡_, refl, sym, ap, _∙_, subst}
 use mathlib.Core.Bool.{Bool, true, false, cond, not, _&&_, true≢false, false≢true}
 use mathlib.Core.List.{List, [], _∷_, _++_, append-assoc, append-cancel-left}
-use Prim.Native.Nat.{ℕ, suc, _+_, _%_, _<_, _≤_}
+use Prim.Native.Nat.{ℕ, suc, _+_, _-_, _/_, _%_, _<_, _≤_}
 use native.Mathlib.Omega.{arith}
 use lib.Dec.{ltb, leb, eqb, eqb·suc-zero}
 use lib.ListN.{length, getD, take, drop}
 use lib.Seq.{take-append-seam}
 use borrow.Author.Tests.{eqb-true, ltb-false, leb-true}
+use Rattle.crc.specs.Checksum.{resultOf}
 use Rattle.key.specs.Key.{formatHolds, judgedKey}
-use Rattle.machine.specs.State.{Machine, Key, Command, WriteE2, programming}
+use Rattle.machine.specs.State.{Machine, Checksum, Key, Command, WriteE2, programming}
 use Rattle.machine.specs.Fifo.{firstOf, alerted}
 use Rattle.machine.specs.Memory.{storedFrom, programmingClocks}
 use Rattle.machine.specs.Frames.{frameSent, crcBytes}
-use Rattle.machine.specs.Registers.{mapped, registerRead}
+use Rattle.machine.specs.Registers.{mapped, registerRead, crcResult}
 use Rattle.machine.specs.WellFormed.{wellFormed, fifoFormed, timerFormed, commandFormed}
 use Rattle.machine.specs.Refusals.{Call, start, hostRead, hostWrite, advance, takeFrame, deliver, refusal, clockLimit}
 use Rattle.machine.specs.Events.{Outcome, Answer, accepted, perform, refused, bufferOf, written, readByte, afterRead, advanced, taken, delivered, bufferTaken, byte, clocks}
@@ -23,11 +24,11 @@ use Rattle.machine.proofs.WellFormed.Parts.{each}
 use Rattle.journal.specs.Entries as e
 use Rattle.journal.specs.Entries.{collect, keyBytes}
 use Rattle.journal.specs.Journal.{Journal, enterAccepted, enter, leaveFrom, leave, Both}
-use Rattle.journal.specs.Demand.{run, NextCall, Demand3}
+use Rattle.journal.specs.Demand.{run, checksumShown, ReadAnswers, NextCall, Demand3}
 use Rattle.journal.proofs.Agreement.{Agrees, AgreesWith, PlaceIs}
 use Rattle.journal.proofs.Run.{run-agrees, conserved}
 use Rattle.journal.proofs.Keys.{Keyless, Judged, nothing, twelve, KeyCall, key-none, offers-keyless, leave-keyless, all-keyless, clocks-keyless, written-keys}
-use Rattle.journal.proofs.Programming.{stored-at, finishes}
+use Rattle.journal.proofs.Programming.{stored-at, pending, finishes}
 
 command-formed : (m : Machine) → wellFormed m ≡ true → commandFormed (m .command) ≡ true
 unfolding wellFormed
@@ -69,12 +70,32 @@ module _ (image : List ℕ) where
   judged-twelve k f ks ls x some (twelve size is err) = (size, is, err)
 
   module _ (m : Machine) (j : Journal) (a : AgreesWith image m j) where
-    host-read-answer : (address : ℕ) → refusal m (hostRead address) ≡ 0 → eqb (mapped (m .page) address) 0x02 ≡ true → perform m (hostRead address) .answer ≡ byte (firstOf (j .held))
-    unfolding readByte registerRead
-    host-read-answer address ok is =
+    -- A read of a register whose byte is known.
+    reads : (register b : ℕ) → registerRead register m ≡ b → ReadAnswers m register b
+    unfolding readByte
+    reads register b is address ok at =
         ap (λ (o : Outcome). o .answer) (as-accepted m (hostRead address) ok)
-        ∙ ap (λ (r : ℕ). byte (registerRead r m)) (eqb-true (mapped (m .page) address) 0x02 is)
-        ∙ ap (λ (h : List ℕ). byte (firstOf h)) (sym (a .same-held))
+        ∙ ap (λ (r : ℕ). byte (registerRead r m)) at
+        ∙ ap byte is
+
+    shown : crcResult m ≡ checksumShown j
+    shown = sym (ap (λ (k : Checksum). resultOf (k .mode) (k .register)) (a .same-checksum))
+
+    host-read-answer : ReadAnswers m 0x02 (firstOf (j .held))
+    unfolding registerRead
+    host-read-answer = reads 0x02 _ (ap firstOf (sym (a .same-held)))
+
+    length-answer : ReadAnswers m 0x04 (length (j .held))
+    unfolding registerRead
+    length-answer = reads 0x04 _ (ap length (sym (a .same-held)))
+
+    crc-low-answer : ReadAnswers m 0x0D (checksumShown j % 256)
+    unfolding registerRead
+    crc-low-answer = reads 0x0D _ (ap (λ (n : ℕ). n % 256) shown)
+
+    crc-high-answer : ReadAnswers m 0x0E (checksumShown j / 256)
+    unfolding registerRead
+    crc-high-answer = reads 0x0E _ (ap (λ (n : ℕ). n / 256) shown)
 
     empty-read : (address : ℕ) → j .held ≡ [] → enter (hostRead address) m j ≡ j
     unfolding enter leave
@@ -111,6 +132,14 @@ module _ (image : List ℕ) where
         ∙ ap (λ (x : List ℕ). getD x (s + i) 0) (finishes n m s left bs is some within (omega arith))
         ∙ stored-at bs (m .eeprom) s i (omega (arith, place .0, place .1, a .whole)) h
 
+    programming-lasts : (n s left : ℕ) (bs : List ℕ) → m .command ≡ WriteE2 (programming s bs left) → refusal m (advance n) ≡ 0 → n < left →
+        (perform m (advance n) .next .command ≡ WriteE2 (programming s bs (left - n))) × (perform m (advance n) .next .eeprom ≡ m .eeprom)
+    unfolding advanced alerted
+    programming-lasts n s left bs is ok before =
+        let same = as-accepted m (advance n) ok in
+        let (waits, stands) = pending n m s left bs is before in
+        (ap (λ (o : Outcome). o .next .command) same ∙ waits, ap (λ (o : Outcome). o .next .eeprom) same ∙ stands)
+
     key-judged : (c : Call) (keys : List ℕ) (k : ℕ) (ks : List ℕ) → keys ≡ k ∷ ks → collect keyBytes (enter c m j .entries) ≡ collect keyBytes (j .entries) ++ keys →
         (length keys ≡ 12) × (perform m c .next .key ≡ record { loaded = formatHolds keys; bytes = judgedKey keys }) × (perform m c .next .status .errors .keyErr ≡ not (formatHolds keys))
     key-judged c keys k ks some added =
@@ -122,10 +151,14 @@ module _ (image : List ℕ) where
   next-call s a =
       record {
         host-read-answer = host-read-answer (s .machine) (s .journal) a;
+        length-answer = length-answer (s .machine) (s .journal) a;
+        crc-low-answer = crc-low-answer (s .machine) (s .journal) a;
+        crc-high-answer = crc-high-answer (s .machine) (s .journal) a;
         empty-read = empty-read (s .machine) (s .journal) a;
         frame-begins = frame-begins (s .machine) (s .journal) a;
         refused-adds-nothing = refused-adds-nothing (s .machine) (s .journal) a;
         programmed-bytes-stand = programmed-bytes-stand (s .machine) (s .journal) a;
+        programming-lasts = programming-lasts (s .machine) (s .journal) a;
         key-judged = key-judged (s .machine) (s .journal) a;
       }
 

@@ -74,13 +74,16 @@ module _ (m : Machine) (a left : ℕ) (bs : List ℕ) (is : m .command ≡ Write
       ap (λ (c : Command). commandClocked c (timerClock m)) is
       ∙ ap (λ (t : Bool). cond t (programmed a bs (timerClock m)) (withCommand (WriteE2 (programming a bs (left - 1))) (timerClock m))) (le-leb left 1 last)
 
--- Memory stands while a programming has clocks left.
-pending-stands : (n : ℕ) (m : Machine) (a left : ℕ) (bs : List ℕ) → m .command ≡ WriteE2 (programming a bs left) → n < left → clocks n m .eeprom ≡ m .eeprom
+-- While a programming has clocks left, its bytes wait on and memory stands.
+pub pending : (n : ℕ) (m : Machine) (a left : ℕ) (bs : List ℕ) → m .command ≡ WriteE2 (programming a bs left) → n < left →
+    (clocks n m .command ≡ WriteE2 (programming a bs (left - n))) × (clocks n m .eeprom ≡ m .eeprom)
 unfolding clocks
-pending-stands zero m a left bs is h = refl
-pending-stands (suc n) m a left bs is h =
+pending zero m a left bs is h = let none : left ≡ left - 0 = omega arith in (is ∙ ap (λ (k : ℕ). WriteE2 (programming a bs k)) none, refl)
+pending (suc n) m a left bs is h =
     let same = goes-on m a left bs is (omega arith) in
-    pending-stands n (clock m) a (left - 1) bs (ap (λ (x : Machine). x .command) same) (omega arith) ∙ ap (λ (x : Machine). x .eeprom) same ∙ timer-eeprom m
+    let (waits, stands) = pending n (clock m) a (left - 1) bs (ap (λ (x : Machine). x .command) same) (omega arith) in
+    let less : left - 1 - n ≡ left - suc n = omega arith in
+    (waits ∙ ap (λ (k : ℕ). WriteE2 (programming a bs k)) less, stands ∙ ap (λ (x : Machine). x .eeprom) same ∙ timer-eeprom m)
 
 -- A command under which memory stands for less than one programming.
 data Resting : Command → Type 0 where
@@ -92,7 +95,7 @@ rests n m h r = go (m .command) refl r
   where
     go : (c : Command) → m .command ≡ c → Resting c → clocks n m .eeprom ≡ m .eeprom
     go c is (plain p) = plain-stands n m (ap programs is ∙ p)
-    go c is (fresh a bs) = pending-stands n m a programmingClocks bs is h
+    go c is (fresh a bs) = pending n m a programmingClocks bs is h .1
 
 -- A WriteE2 with a known address rests after it has settled.
 record Rested (z n : Machine) : Type 0 where

@@ -1,11 +1,10 @@
 -- Demand 3 over the machine's definition: what holds after every list of calls from a start that succeeds. Each clause of the demand has a
 -- field of its own.
 -- Assumes nothing.
-use Prim.Native.Nat.{ℕ, suc, _+_, _<_, _≤_}
+use Prim.Native.Nat.{ℕ, suc, _+_, _-_, _/_, _%_, _<_, _≤_}
 use mathlib.Core.Path.{_≡_}
-use mathlib.Core.Bool.{true, not}
+use mathlib.Core.Bool.{not}
 use mathlib.Core.List.{List, [], _∷_, _++_}
-use lib.Dec.{eqb}
 use lib.ListN.{length, take, getD, set}
 use Rattle.crc.specs.Checksum.{absorbedAll, resultOf}
 use Rattle.key.specs.Key.{formatHolds, judgedKey}
@@ -58,6 +57,10 @@ pub record MemoryIs (r : Memory) (c : Command) (eeprom : List ℕ) : Type 0 wher
   pub split : r .bytes ≡ finished ++ waiting c
   pub stored : eeprom ≡ storedBytes (r .image) finished
 
+-- The checksum of what left to the latest CalcCRC since the last start, 0 without one.
+abbrev pub checksumShown : Journal → ℕ
+checksumShown j = let l = latestFrom noChecksum (j .entries) in resultOf (l .mode) (absorbedAll (l .mode) (l .preset) (l .input))
+
 -- What holds after a list of calls, of the machine and the journal.
 pub record Conserved (image : List ℕ) (s : Both) : Type 0 where
   -- the journal's held list is what the chip holds
@@ -67,16 +70,23 @@ pub record Conserved (image : List ℕ) (s : Both) : Type 0 where
   -- "The bytes taken in, in order, are those that left .., in the order they left, followed by those the chip still holds"
   pub in-order : collect bytesIn (s .journal .entries) ≡ collect bytesOut (s .journal .entries) ++ s .machine .held
   -- "0Dh, 0Eh show the checksum of what left to the latest CalcCRC since the last start (0 without one)"
-  pub checksum-shown : let l = latestFrom noChecksum (s .journal .entries) in crcResult (s .machine) ≡ resultOf (l .mode) (absorbedAll (l .mode) (l .preset) (l .input))
+  pub checksum-shown : crcResult (s .machine) ≡ checksumShown (s .journal)
   -- "each is at its memory address after the call that finishes its programming, unless a start comes first"
   pub memory-stored : MemoryIs (memoryFrom (record { image = image; bytes = [] }) (s .journal .entries)) (s .machine .command) (s .machine .eeprom)
+
+-- A host read that is not refused, of a register by its address after mapping, answers this byte.
+abbrev pub ReadAnswers : Machine → ℕ → ℕ → Type 0
+ReadAnswers m register b =
+    (address : ℕ) → refusal m (hostRead address) ≡ 0 → mapped (m .page) address ≡ register → perform m (hostRead address) .answer ≡ byte b
 
 -- What holds of every call that comes next.
 pub record NextCall (s : Both) : Type 0 where
   -- a host read of FIFOData answers the byte that leaves to it, and 0 where none is held
-  pub host-read-answer :
-      (address : ℕ) → refusal (s .machine) (hostRead address) ≡ 0 → eqb (mapped (s .machine .page) address) 0x02 ≡ true →
-      perform (s .machine) (hostRead address) .answer ≡ byte (firstOf (s .journal .held))
+  pub host-read-answer : ReadAnswers (s .machine) 0x02 (firstOf (s .journal .held))
+  -- one of FIFOLength answers how many are held, and those of CRCResultLSB and CRCResultMSB the checksum
+  pub length-answer : ReadAnswers (s .machine) 0x04 (length (s .journal .held))
+  pub crc-low-answer : ReadAnswers (s .machine) 0x0D (checksumShown (s .journal) % 256)
+  pub crc-high-answer : ReadAnswers (s .machine) 0x0E (checksumShown (s .journal) / 256)
   -- "reading an empty buffer removes nothing"
   pub empty-read : (address : ℕ) → s .journal .held ≡ [] → enter (hostRead address) (s .machine) (s .journal) ≡ s .journal
   -- "A take's buffer begins with what left to it"
@@ -89,6 +99,10 @@ pub record NextCall (s : Both) : Type 0 where
   pub programmed-bytes-stand :
       (n a left : ℕ) (bs : List ℕ) → s .machine .command ≡ WriteE2 (programming a bs left) → refusal (s .machine) (advance n) ≡ 0 → left ≤ n →
       (i : ℕ) → i < length bs → getD (perform (s .machine) (advance n) .next .eeprom) (a + i) 0 ≡ getD bs i 0
+  -- and not one clock earlier: with clocks left, the bytes wait on and memory is as it was
+  pub programming-lasts :
+      (n a left : ℕ) (bs : List ℕ) → s .machine .command ≡ WriteE2 (programming a bs left) → refusal (s .machine) (advance n) ≡ 0 → n < left →
+      let m = perform (s .machine) (advance n) .next in (m .command ≡ WriteE2 (programming a bs (left - n))) × (m .eeprom ≡ s .machine .eeprom)
   -- "KeyErr and key are judged from the twelve as they leave"
   pub key-judged :
       (c : Call) (twelve : List ℕ) (k : ℕ) (ks : List ℕ) → twelve ≡ k ∷ ks →

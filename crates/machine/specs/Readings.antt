@@ -64,6 +64,7 @@ pub record Readings : Type 0 where
   -- 5.8 ms at 13,560 clocks a millisecond, and a WriteE2 of one byte begins with all of them
   pub programming-time : 10 * programmingClocks ≡ 58 * 13_560
   pub programming-begins : afterStart (command 0x01 (0x6C ∷ 0x01 ∷ 0xAA ∷ [])) .command ≡ WriteE2 (programming 0x16C (0xAA ∷ []) 78_648)
+  pub programming-goes-on : clock (withCommand (WriteE2 (programming 0x16C (0xAA ∷ []) 2)) (started shippedImage)) .command ≡ WriteE2 (programming 0x16C (0xAA ∷ []) 1)
   -- "Each 2^prescaler clocks make one timer step": reload 2, prescaler 3, so 16 clocks
   pub prescaler-3-not-at-15 : afterStart (prescaler3 15) .status .requests .timer ≡ false
   pub prescaler-3-at-16 : afterStart (prescaler3 16) .status .requests .timer ≡ true

@@ -1,5 +1,7 @@
+pub mod CommandLaws
 pub mod CopyLaws
 pub mod FlagLaws
 pub mod FormedLaws
+pub mod ReadingLaws
 pub mod RingLaws
 pub mod TimerLaws

@@ -5,11 +5,12 @@ use crate::flags::raised_timer;
 ghost use Prim.Native.Nat.{_<_};
 ghost use Rattle.machine.specs.State.{withTimer};
 ghost use Rattle.machine.specs.Timer.{stoppedAt, runningAt, timerStarted, timerStopped, timerStepped, timerClock};
-ghost use Rattle.chip.specs.Turns.{Turns, TurnsBy};
+ghost use Rattle.chip.specs.Turns.{Turns, TurnsBy, Keeps};
 
 // A stopped timer keeps no prescaler and no phase.
 fn stopped_at(core: Core, value: u8) -> Core
-    ensures { λ r. ⌜ Turns (withTimer (stoppedAt value)) core r ⌝ }
+    ensures turns { λ r. ⌜ Turns (withTimer (stoppedAt value)) core r ⌝ }
+    ensures keeps { λ r. ⌜ Keeps core r ⌝ }
 {
     let timer = Timer {
         running: 0,
@@ -23,7 +24,8 @@ fn stopped_at(core: Core, value: u8) -> Core
 }
 
 fn running_at(core: Core, value: u8, prescaler: u8, phase: u32) -> Core
-    ensures { λ r. ⌜ Turns (withTimer (runningAt value prescaler phase)) core r ⌝ }
+    ensures turns { λ r. ⌜ Turns (withTimer (runningAt value prescaler phase)) core r ⌝ }
+    ensures keeps { λ r. ⌜ Keeps core r ⌝ }
 {
     let timer = Timer {
         running: 1,
@@ -37,14 +39,16 @@ fn running_at(core: Core, value: u8, prescaler: u8, phase: u32) -> Core
 }
 
 pub fn stopped(core: Core) -> Core
-    ensures { λ r. ⌜ Turns timerStopped core r ⌝ }
+    ensures turns { λ r. ⌜ Turns timerStopped core r ⌝ }
+    ensures keeps { λ r. ⌜ Keeps core r ⌝ }
 {
     stopped_at(core, core.timer.value)
 }
 
 // TimerReload and TPreScaler are loaded; a reload of 0 and a prescaler above 21 stop the timer at 0.
 pub fn started(core: Core, registers: &[u8; 32]) -> Core
-    ensures { λ r. ⌜ TurnsBy (now (registers .entry)) timerStarted core r ⌝ }
+    ensures turns { λ r. ⌜ TurnsBy (now (registers .entry)) timerStarted core r ⌝ }
+    ensures keeps { λ r. ⌜ Keeps core r ⌝ }
 {
     let reload = registers[0x2C - 0x10];
     if reload == 0 {
@@ -59,7 +63,8 @@ pub fn started(core: Core, registers: &[u8; 32]) -> Core
 
 // One timer step: the value falls, or at 1 TimerIRq is set and the timer stops, or restarts with TAutoRestart.
 fn stepped(core: Core, registers: &[u8; 32]) -> Core
-    ensures { λ r. ⌜ TurnsBy (now (registers .entry)) timerStepped core r ⌝ }
+    ensures turns { λ r. ⌜ TurnsBy (now (registers .entry)) timerStepped core r ⌝ }
+    ensures keeps { λ r. ⌜ Keeps core r ⌝ }
 {
     let value = core.timer.value;
     let prescaler = core.timer.prescaler;
@@ -79,7 +84,8 @@ fn stepped(core: Core, registers: &[u8; 32]) -> Core
 
 // One clock; 2^prescaler clocks make one step. A prescaler above 31 is malformed, and 2^prescaler and the phase might not fit then.
 pub fn clocked(core: Core, registers: &[u8; 32]) -> Core
-    ensures { λ r. ⌜ (core .timer .prescaler < 32 → TurnsBy (now (registers .entry)) timerClock core r) ⌝ }
+    ensures turns { λ r. ⌜ (core .timer .prescaler < 32 → TurnsBy (now (registers .entry)) timerClock core r) ⌝ }
+    ensures keeps { λ r. ⌜ Keeps core r ⌝ }
 {
     let prescaler = core.timer.prescaler;
     let phase = core.timer.phase;

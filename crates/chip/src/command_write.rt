@@ -46,6 +46,7 @@ fn switched(core: Core, code: u8, sending: u8, receiving: u8) -> Core
 // A code is started. LoadKeyE2 and LoadKey clear KeyErr, CalcCRC reads its presets, and an unknown code ends at once.
 fn begun(core: Core, registers: &[u8; 32], code: u8) -> Core
     ensures turns { λ r. ⌜ TurnsBy (now (registers .entry)) (commandStarted code) core r ⌝ }
+    ensures keeps { λ r. ⌜ Keeps core r ⌝ }
 {
     match code {
         0x00 => switched(core, 0x00, 0, 0),
@@ -65,6 +66,7 @@ fn begun(core: Core, registers: &[u8; 32], code: u8) -> Core
 // Command is written; the code is in bits 5-0.
 pub fn written(core: Core, registers: &[u8; 32], v: u8) -> Core
     ensures turns { λ r. ⌜ TurnsBy (now (registers .entry)) (commandWritten v) core r ⌝ }
+    ensures keeps { λ r. ⌜ Keeps core r ⌝ }
 {
     if programs(core) {
         return core;

@@ -3,7 +3,7 @@ ghost use mathlib.Core.Bool.{cond};
 ghost use Rattle.machine.specs.Fifo.{flushed as Fifo·flushed};
 ghost use Rattle.machine.specs.Timer.{timerStarted, timerStopped};
 ghost use Rattle.machine.specs.Registers.{controlWritten};
-ghost use Rattle.chip.specs.Turns.{Turns, TurnsBy};
+ghost use Rattle.chip.specs.Turns.{Turns, TurnsBy, Keeps};
 use crate::Core;
 use crate::clocks::started;
 use crate::clocks::stopped;
@@ -13,6 +13,7 @@ use crate::flags::with_fifo_ovfl;
 // FlushFIFO: no byte is held, and FIFOOvfl is cleared.
 fn flushed(core: Core, flag: bool) -> Core
     ensures turns { λ r. ⌜ Turns (λ m. cond flag (Fifo·flushed m) m) core r ⌝ }
+    ensures keeps { λ r. ⌜ Keeps core r ⌝ }
 {
     if flag {
         return with_fifo_ovfl(emptied(core), false);
@@ -23,6 +24,7 @@ fn flushed(core: Core, flag: bool) -> Core
 // TStopNow.
 fn timer_stopped(core: Core, flag: bool) -> Core
     ensures turns { λ r. ⌜ Turns (λ m. cond flag (timerStopped m) m) core r ⌝ }
+    ensures keeps { λ r. ⌜ Keeps core r ⌝ }
 {
     if flag {
         return stopped(core);
@@ -33,6 +35,7 @@ fn timer_stopped(core: Core, flag: bool) -> Core
 // TStartNow.
 fn timer_started(core: Core, registers: &[u8; 32], flag: bool) -> Core
     ensures turns { λ r. ⌜ TurnsBy (now (registers .entry)) (λ m. cond flag (timerStarted m) m) core r ⌝ }
+    ensures keeps { λ r. ⌜ Keeps core r ⌝ }
 {
     if flag {
         return started(core, registers);
@@ -43,6 +46,7 @@ fn timer_started(core: Core, registers: &[u8; 32], flag: bool) -> Core
 // Control is written.
 pub fn written(core: Core, registers: &[u8; 32], v: u8) -> Core
     ensures turns { λ r. ⌜ TurnsBy (now (registers .entry)) (controlWritten v) core r ⌝ }
+    ensures keeps { λ r. ⌜ Keeps core r ⌝ }
 {
     let flushes = flushed(core, v % 2 == 1);
     let stops = timer_stopped(flushes, v / 4 % 2 == 1);

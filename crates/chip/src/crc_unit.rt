@@ -5,7 +5,7 @@ ghost use Prim.Native.Nat.{ℕ};
 ghost use Rattle.machine.specs.Commands.{checksumStarted, checksumTaken};
 ghost use Rattle.crc.specs.Checksum.{absorbedAll};
 ghost use Rattle.chip.specs.View.{heldFrom, viewOf};
-ghost use Rattle.chip.specs.Turns.{TurnsBy};
+ghost use Rattle.chip.specs.Turns.{TurnsBy, Keeps};
 use crate::Checksum;
 use crate::Core;
 use crate::fifo::emptied;
@@ -13,7 +13,8 @@ use crate::fifo::held;
 
 // CalcCRC starts: it reads its mode and presets.
 pub fn started(core: Core, registers: &[u8; 32]) -> Core
-    ensures { λ r. ⌜ TurnsBy (now (registers .entry)) checksumStarted core r ⌝ }
+    ensures turns { λ r. ⌜ TurnsBy (now (registers .entry)) checksumStarted core r ⌝ }
+    ensures keeps { λ r. ⌜ Keeps core r ⌝ }
 {
     let mode = registers[0x22 - 0x10];
     let lsb = registers[0x23 - 0x10];
@@ -45,7 +46,8 @@ fn absorbed(slots: &[u8; 64], position: u8, count: u8, mode: u8, register: u16) 
 
 // CalcCRC takes every held byte.
 pub fn taken(core: Core, slots: &[u8; 64]) -> Core
-    ensures { λ r. ⌜ ((registers latch key eeprom : List ℕ) → viewOf r (now (slots .entry)) registers latch key eeprom ≡ checksumTaken (viewOf core (now (slots .entry)) registers latch key eeprom)) ⌝ }
+    ensures turns { λ r. ⌜ ((registers latch key eeprom : List ℕ) → viewOf r (now (slots .entry)) registers latch key eeprom ≡ checksumTaken (viewOf core (now (slots .entry)) registers latch key eeprom)) ⌝ }
+    ensures keeps { λ r. ⌜ Keeps core r ⌝ }
 {
     let ring = core.ring;
     let old = core.checksum;

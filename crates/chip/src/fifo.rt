@@ -9,7 +9,7 @@ ghost use Rattle.machine.specs.State.{Machine, withHeld};
 ghost use Rattle.machine.specs.Fifo.{firstOf, loAlert, hiAlert, offered as Fifo·offered, alerted as Fifo·alerted};
 ghost use Rattle.machine.specs.Commands.{taken as Commands·taken};
 ghost use Rattle.chip.specs.View.{heldCount, heldOf, viewOf};
-ghost use Rattle.chip.specs.Turns.{Turns, TurnsBy, TurnsSlots};
+ghost use Rattle.chip.specs.Turns.{Turns, TurnsBy, TurnsSlots, Keeps};
 use crate::Core;
 
 // How many bytes it holds.
@@ -42,7 +42,8 @@ pub fn first(core: Core, slots: &[u8; 64]) -> u8
 
 // No byte is held.
 pub fn emptied(core: Core) -> Core
-    ensures { λ r. ⌜ Turns (withHeld []) core r ⌝ }
+    ensures turns { λ r. ⌜ Turns (withHeld []) core r ⌝ }
+    ensures keeps { λ r. ⌜ Keeps core r ⌝ }
 {
     let mut ring = core.ring;
     ring.read = ring.write;
@@ -53,7 +54,8 @@ pub fn emptied(core: Core) -> Core
 
 // The first `count` bytes leave, or all where fewer are held.
 pub fn taken(core: Core, count: u8) -> Core
-    ensures { λ r. ⌜ Turns (Commands·taken count) core r ⌝ }
+    ensures turns { λ r. ⌜ Turns (Commands·taken count) core r ⌝ }
+    ensures keeps { λ r. ⌜ Keeps core r ⌝ }
 {
     if held(core) <= count {
         return emptied(core);
@@ -70,6 +72,7 @@ pub fn taken(core: Core, count: u8) -> Core
 pub fn offered(core: Core, slots: &mut [u8; 64], byte: u8) -> Core
     ensures turns { λ r. ⌜ (length (now (slots .entry)) ≡ 64 → TurnsSlots (now (slots .entry)) (now (slots .exit)) (Fifo·offered byte) core r) ⌝ }
     ensures whole { λ r. ⌜ length (now (slots .exit)) ≡ length (now (slots .entry)) ⌝ }
+    ensures keeps { λ r. ⌜ Keeps core r ⌝ }
 {
     let mut next = core;
     if held(core) < 64 {
@@ -117,7 +120,8 @@ fn requested(requests: u8, mask: u8, before: bool, after: bool) -> u8
 
 // An event is over: the requests for the alerts that were 0 before it, as `was_low` and `was_high` say, and are 1 after it.
 pub fn alerted(core: Core, registers: &[u8; 32], was_low: bool, was_high: bool) -> Core
-    ensures { λ r. ⌜ ((b : Machine) → loAlert b ≡ «was_low» → hiAlert b ≡ «was_high» → TurnsBy (now (registers .entry)) (Fifo·alerted b) core r) ⌝ }
+    ensures turns { λ r. ⌜ ((b : Machine) → loAlert b ≡ «was_low» → hiAlert b ≡ «was_high» → TurnsBy (now (registers .entry)) (Fifo·alerted b) core r) ⌝ }
+    ensures keeps { λ r. ⌜ Keeps core r ⌝ }
 {
     let mut interrupts = core.interrupts;
     interrupts.requests = requested(interrupts.requests, 0x01, was_low, low(core, registers));

@@ -6,10 +6,10 @@ use Rattle.chip.proofs.clocks.clocked.Statement.{statement}
 use Rattle.chip.proofs.clocks.clocked.Tie as tie
 
 returns : tie.Need-returns
-returns c = λ fits. clock-stays (c .before .before .args .registers .now) (c .before .before .args .core) (c .if1 .taken)
+returns c = (λ fits. clock-stays (c .before .before .args .registers .now) (c .before .before .args .core) (c .if1 .taken), λ agrees. agrees)
 
 returns-2 : tie.Need-returns-2
-returns-2 c = λ fits. absurd (omega arith)
+returns-2 c = (λ fits. absurd (omega arith), λ agrees. agrees)
 
 cast-clocks : tie.Need-cast-clocks
 cast-clocks c = search needs
@@ -27,17 +27,21 @@ running-at-requires : tie.Need-running-at-requires
 running-at-requires c κs = search needs
 
 returns-3 : tie.Need-returns-3
-returns-3 c = λ fits.
-    let start = c .before .before .before .before .before in
-    clock-counts (start .args .registers .now) (start .args .core) (c .running-at .result) (c .before .before .before .if1 .left) fits (c .before .if3 .taken) (c .running-at .ensures)
+returns-3 c =
+    let start = c .before .before .before .before .before in (
+      λ fits. clock-counts (start .args .registers .now) (start .args .core) (c .running-at .result) (c .before .before .before .if1 .left) fits (c .before .if3 .taken) (c .running-at .ensures .0),
+      c .running-at .ensures .1,
+    )
 
 stepped-requires : tie.Need-stepped-requires
 stepped-requires c κs = search needs
 
 returns-4 : tie.Need-returns-4
-returns-4 c = λ fits.
-    let start = c .before .before .before .before .before in
-    clock-steps (start .args .registers .now) (start .args .core) (c .stepped .result) (c .before .before .before .if1 .left) fits (c .before .if3 .left) (c .stepped .ensures)
+returns-4 c =
+    let start = c .before .before .before .before .before in (
+      λ fits. clock-steps (start .args .registers .now) (start .args .core) (c .stepped .result) (c .before .before .before .if1 .left) fits (c .before .if3 .left) (c .stepped .ensures .0),
+      c .stepped .ensures .1,
+    )
 
 pub clocked-spec : {M : Type 1} → statement M
 clocked-spec =

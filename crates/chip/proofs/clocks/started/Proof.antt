@@ -15,8 +15,10 @@ stopped-at-requires c κs = search needs
 
 returns : tie.Need-returns
 returns c =
-    let start = c .before .before .before in
-    start-zero (start .args .registers .now) (start .args .core) (c .stopped-at .result) (c .before .if1 .taken) (c .stopped-at .ensures)
+    let start = c .before .before .before in (
+      start-zero (start .args .registers .now) (start .args .core) (c .stopped-at .result) (c .before .if1 .taken) (c .stopped-at .ensures .0),
+      c .stopped-at .ensures .1,
+    )
 
 sub-prescaler : tie.Need-sub-prescaler
 sub-prescaler c = search needs
@@ -29,16 +31,20 @@ stopped-at-requires-2 c κs = search needs
 
 returns-2 : tie.Need-returns-2
 returns-2 c =
-    let start = c .before .before .before .before .before in
-    start-high (start .args .registers .now) (start .args .core) (c .stopped-at2 .result) (c .before .before .before .if1 .left) (c .before .if2 .taken) (c .stopped-at2 .ensures)
+    let start = c .before .before .before .before .before in (
+      start-high (start .args .registers .now) (start .args .core) (c .stopped-at2 .result) (c .before .before .before .if1 .left) (c .before .if2 .taken) (c .stopped-at2 .ensures .0),
+      c .stopped-at2 .ensures .1,
+    )
 
 running-at-requires : tie.Need-running-at-requires
 running-at-requires c κs = search needs
 
 returns-3 : tie.Need-returns-3
 returns-3 c =
-    let start = c .before .before .before .before .before in
-    start-runs (start .args .registers .now) (start .args .core) (c .running-at .result) (c .before .before .before .if1 .left) (c .before .if2 .left) (c .running-at .ensures)
+    let start = c .before .before .before .before .before in (
+      start-runs (start .args .registers .now) (start .args .core) (c .running-at .result) (c .before .before .before .if1 .left) (c .before .if2 .left) (c .running-at .ensures .0),
+      c .running-at .ensures .1,
+    )
 
 pub started-spec : {M : Type 1} → statement M
 started-spec =

@@ -12,8 +12,10 @@ running-at-requires c κs = search needs
 
 returns : tie.Need-returns
 returns c =
-    let start = c .before .before in
-    step-falls (start .args .registers .now) (start .args .core) (c .running-at .result) (c .before .if1 .taken) (c .running-at .ensures)
+    let start = c .before .before in (
+      step-falls (start .args .registers .now) (start .args .core) (c .running-at .result) (c .before .if1 .taken) (c .running-at .ensures .0),
+      c .running-at .ensures .1,
+    )
 
 raised-timer-requires : tie.Need-raised-timer-requires
 raised-timer-requires c κs = search needs
@@ -30,8 +32,10 @@ stopped-at-requires c κs = search needs
 returns-2 : tie.Need-returns-2
 returns-2 c =
     let at-one = c .before .before .before in
-    let start = at-one .before .before in
-    step-rests (start .args .registers .now) (start .args .core) (c .stopped-at .result) (at-one .raised-timer .result) (at-one .raised-timer .ensures) (at-one .before .if1 .left) (c .before .if2 .taken) (c .stopped-at .ensures)
+    let start = at-one .before .before in (
+      step-rests (start .args .registers .now) (start .args .core) (c .stopped-at .result) (at-one .raised-timer .result) (at-one .raised-timer .ensures .0) (at-one .before .if1 .left) (c .before .if2 .taken) (c .stopped-at .ensures .0),
+      λ agrees. c .stopped-at .ensures .1 (at-one .raised-timer .ensures .1 agrees),
+    )
 
 sub-reload : tie.Need-sub-reload
 sub-reload c = search needs
@@ -45,8 +49,10 @@ stopped-at-requires-2 c κs = search needs
 returns-3 : tie.Need-returns-3
 returns-3 c =
     let at-one = c .before .before .before .before .before in
-    let start = at-one .before .before in
-    step-zero (start .args .registers .now) (start .args .core) (c .stopped-at2 .result) (at-one .raised-timer .result) (at-one .raised-timer .ensures) (at-one .before .if1 .left) (c .before .before .before .if2 .left) (c .before .if3 .taken) (c .stopped-at2 .ensures)
+    let start = at-one .before .before in (
+      step-zero (start .args .registers .now) (start .args .core) (c .stopped-at2 .result) (at-one .raised-timer .result) (at-one .raised-timer .ensures .0) (at-one .before .if1 .left) (c .before .before .before .if2 .left) (c .before .if3 .taken) (c .stopped-at2 .ensures .0),
+      λ agrees. c .stopped-at2 .ensures .1 (at-one .raised-timer .ensures .1 agrees),
+    )
 
 running-at-requires-2 : tie.Need-running-at-requires-2
 running-at-requires-2 c κs = search needs
@@ -54,8 +60,10 @@ running-at-requires-2 c κs = search needs
 returns-4 : tie.Need-returns-4
 returns-4 c =
     let at-one = c .before .before .before .before .before in
-    let start = at-one .before .before in
-    step-restarts (start .args .registers .now) (start .args .core) (c .running-at2 .result) (at-one .raised-timer .result) (at-one .raised-timer .ensures) (at-one .before .if1 .left) (c .before .before .before .if2 .left) (c .before .if3 .left) (c .running-at2 .ensures)
+    let start = at-one .before .before in (
+      step-restarts (start .args .registers .now) (start .args .core) (c .running-at2 .result) (at-one .raised-timer .result) (at-one .raised-timer .ensures .0) (at-one .before .if1 .left) (c .before .before .before .if2 .left) (c .before .if3 .left) (c .running-at2 .ensures .0),
+      λ agrees. c .running-at2 .ensures .1 (at-one .raised-timer .ensures .1 agrees),
+    )
 
 pub stepped-spec : {M : Type 1} → statement M
 stepped-spec =

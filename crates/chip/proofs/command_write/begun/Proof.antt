@@ -53,64 +53,86 @@ ended-requires c κs = search needs
 
 returns : tie.Need-returns
 returns c =
-    let a = c .before .before .args in
-    code-starts (now (a .registers)) (a .code) (a .core) (c .switched .result) 0x00 (c .before .match .keys1) (c .switched .ensures .0)
+    let a = c .before .before .args in (
+      code-starts (now (a .registers)) (a .code) (a .core) (c .switched .result) 0x00 (c .before .match .keys1) (c .switched .ensures .0),
+      λ agrees. c .switched .ensures .1 refl agrees,
+    )
 
 returns-2 : tie.Need-returns-2
 returns-2 c =
-    let a = c .before .before .args in
-    code-starts (now (a .registers)) (a .code) (a .core) (c .switched2 .result) 0x01 (c .before .match .keys2) (c .switched2 .ensures .0)
+    let a = c .before .before .args in (
+      code-starts (now (a .registers)) (a .code) (a .core) (c .switched2 .result) 0x01 (c .before .match .keys2) (c .switched2 .ensures .0),
+      λ agrees. c .switched2 .ensures .1 refl agrees,
+    )
 
 returns-3 : tie.Need-returns-3
 returns-3 c =
-    let a = c .before .before .args in
-    code-starts (now (a .registers)) (a .code) (a .core) (c .switched3 .result) 0x03 (c .before .match .keys3) (c .switched3 .ensures .0)
+    let a = c .before .before .args in (
+      code-starts (now (a .registers)) (a .code) (a .core) (c .switched3 .result) 0x03 (c .before .match .keys3) (c .switched3 .ensures .0),
+      λ agrees. c .switched3 .ensures .1 refl agrees,
+    )
 
 returns-4 : tie.Need-returns-4
 returns-4 c =
-    let a = c .before .before .args in
-    code-starts (now (a .registers)) (a .code) (a .core) (c .switched4 .result) 0x07 (c .before .match .keys4) (c .switched4 .ensures .0)
+    let a = c .before .before .args in (
+      code-starts (now (a .registers)) (a .code) (a .core) (c .switched4 .result) 0x07 (c .before .match .keys4) (c .switched4 .ensures .0),
+      λ agrees. c .switched4 .ensures .1 refl agrees,
+    )
 
 returns-5 : tie.Need-returns-5
 returns-5 c =
-    let a = c .before .before .before .args in
-    code-starts-after (now (a .registers)) (a .code) (a .core) (c .switched5 .result) 0x0B LoadKeyE2 (withKeyErr false) (c .before .with-key-err .result) (λ m. refl) (c .before .before .match .keys5)
-    (λ slots. c .before .with-key-err .ensures slots (now (a .registers)))
-    (c .switched5 .ensures .0)
+    let a = c .before .before .before .args in (
+      code-starts-after (now (a .registers)) (a .code) (a .core) (c .switched5 .result) 0x0B LoadKeyE2 (withKeyErr false) (c .before .with-key-err .result) (λ m. refl) (c .before .before .match .keys5)
+          (λ slots. c .before .with-key-err .ensures .0 slots (now (a .registers)))
+          (c .switched5 .ensures .0),
+      λ agrees. c .switched5 .ensures .1 refl (c .before .with-key-err .ensures .1 agrees),
+    )
 
 returns-6 : tie.Need-returns-6
 returns-6 c =
-    let a = c .before .before .before .args in
-    code-starts-after (now (a .registers)) (a .code) (a .core) (c .switched6 .result) 0x12 CalcCRC checksumStarted (c .before .started .result) (λ m. refl) (c .before .before .match .keys6)
-    (c .before .started .ensures)
-    (c .switched6 .ensures .0)
+    let a = c .before .before .before .args in (
+      code-starts-after (now (a .registers)) (a .code) (a .core) (c .switched6 .result) 0x12 CalcCRC checksumStarted (c .before .started .result) (λ m. refl) (c .before .before .match .keys6)
+          (c .before .started .ensures .0)
+          (c .switched6 .ensures .0),
+      λ agrees. c .switched6 .ensures .1 refl (c .before .started .ensures .1 agrees),
+    )
 
 returns-7 : tie.Need-returns-7
 returns-7 c =
-    let a = c .before .before .args in
-    code-starts (now (a .registers)) (a .code) (a .core) (c .switched7 .result) 0x16 (c .before .match .keys7) (c .switched7 .ensures .0)
+    let a = c .before .before .args in (
+      code-starts (now (a .registers)) (a .code) (a .core) (c .switched7 .result) 0x16 (c .before .match .keys7) (c .switched7 .ensures .0),
+      λ agrees. c .switched7 .ensures .1 refl agrees,
+    )
 
 returns-8 : tie.Need-returns-8
 returns-8 c =
-    let a = c .before .before .before .args in
-    code-starts-after (now (a .registers)) (a .code) (a .core) (c .switched8 .result) 0x19 LoadKey (withKeyErr false) (c .before .with-key-err2 .result) (λ m. refl) (c .before .before .match .keys8)
-    (λ slots. c .before .with-key-err2 .ensures slots (now (a .registers)))
-    (c .switched8 .ensures .0)
+    let a = c .before .before .before .args in (
+      code-starts-after (now (a .registers)) (a .code) (a .core) (c .switched8 .result) 0x19 LoadKey (withKeyErr false) (c .before .with-key-err2 .result) (λ m. refl) (c .before .before .match .keys8)
+          (λ slots. c .before .with-key-err2 .ensures .0 slots (now (a .registers)))
+          (c .switched8 .ensures .0),
+      λ agrees. c .switched8 .ensures .1 refl (c .before .with-key-err2 .ensures .1 agrees),
+    )
 
 returns-9 : tie.Need-returns-9
 returns-9 c =
-    let a = c .before .before .args in
-    code-starts (now (a .registers)) (a .code) (a .core) (c .switched9 .result) 0x1A (c .before .match .keys9) (c .switched9 .ensures .0)
+    let a = c .before .before .args in (
+      code-starts (now (a .registers)) (a .code) (a .core) (c .switched9 .result) 0x1A (c .before .match .keys9) (c .switched9 .ensures .0),
+      λ agrees. c .switched9 .ensures .1 refl agrees,
+    )
 
 returns-10 : tie.Need-returns-10
 returns-10 c =
-    let a = c .before .before .args in
-    code-starts (now (a .registers)) (a .code) (a .core) (c .switched10 .result) 0x1E (c .before .match .keys10) (c .switched10 .ensures .0)
+    let a = c .before .before .args in (
+      code-starts (now (a .registers)) (a .code) (a .core) (c .switched10 .result) 0x1E (c .before .match .keys10) (c .switched10 .ensures .0),
+      λ agrees. c .switched10 .ensures .1 refl agrees,
+    )
 
 returns-11 : tie.Need-returns-11
 returns-11 c =
-    let a = c .before .before .args in
-    unknown-ends (now (a .registers)) (a .code) (a .core) (c .ended .result) (c .before .match .rest) (c .ended .ensures)
+    let a = c .before .before .args in (
+      unknown-ends (now (a .registers)) (a .code) (a .core) (c .ended .result) (c .before .match .rest) (c .ended .ensures .0),
+      c .ended .ensures .1,
+    )
 
 pub begun-spec : {M : Type 1} → statement M
 begun-spec =

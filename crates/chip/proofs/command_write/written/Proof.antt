@@ -13,10 +13,13 @@ programs-requires : tie.Need-programs-requires
 programs-requires c κs = search needs
 
 returns : tie.Need-returns
-returns c slots latch key eeprom =
-    let a = c .before .before .args in
-    write-ignored (a .v) (viewOf (a .core) slots (now (a .registers)) latch key eeprom)
-    (sym (c .before .programs .ensures slots (now (a .registers)) latch key eeprom) ∙ c .if1 .taken)
+returns c =
+    let a = c .before .before .args in (
+      λ slots latch key eeprom.
+          write-ignored (a .v) (viewOf (a .core) slots (now (a .registers)) latch key eeprom)
+          (sym (c .before .programs .ensures slots (now (a .registers)) latch key eeprom) ∙ c .if1 .taken),
+      λ agrees. agrees,
+    )
 
 cleared-errors-requires : tie.Need-cleared-errors-requires
 cleared-errors-requires c κs = search needs
@@ -25,12 +28,15 @@ begun-requires : tie.Need-begun-requires
 begun-requires c κs = search needs
 
 returns-2 : tie.Need-returns-2
-returns-2 c slots latch key eeprom =
-    let a = c .before .before .before .before .args in
-    c .begun .ensures slots latch key eeprom
-    ∙ ap (commandStarted (a .v % 64)) (c .before .cleared-errors .ensures slots (now (a .registers)) latch key eeprom)
-    ∙ write-starts (a .v) (viewOf (a .core) slots (now (a .registers)) latch key eeprom)
-    (sym (c .before .before .before .programs .ensures slots (now (a .registers)) latch key eeprom) ∙ c .before .before .if1 .left)
+returns-2 c =
+    let a = c .before .before .before .before .args in (
+      λ slots latch key eeprom.
+          c .begun .ensures .0 slots latch key eeprom
+          ∙ ap (commandStarted (a .v % 64)) (c .before .cleared-errors .ensures .0 slots (now (a .registers)) latch key eeprom)
+          ∙ write-starts (a .v) (viewOf (a .core) slots (now (a .registers)) latch key eeprom)
+          (sym (c .before .before .before .programs .ensures slots (now (a .registers)) latch key eeprom) ∙ c .before .before .if1 .left),
+      λ agrees. c .begun .ensures .1 (c .before .cleared-errors .ensures .1 agrees),
+    )
 
 pub written-spec : {M : Type 1} → statement M
 written-spec =

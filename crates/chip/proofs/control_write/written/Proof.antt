@@ -34,18 +34,21 @@ add-next c = search needs
 
 returns : tie.Need-returns
 unfolding viewOf
-returns c slots latch key eeprom =
+returns c =
     let a = c .before .before .before .args in
     let registers = now (a .registers) in
     let v = a .v in
-    let before = viewOf (a .core) slots registers latch key eeprom in
-    let bit-0 : eqb (v % 2) 1 ≡ bitSet v 0 = ap (λ (n : ℕ). eqb (n % 2) 1) (sym (div-one v)) in
-    ap (withControl (32 * bit v 5 + 16 * bit v 4))
-    (c .timer-started .ensures slots latch key eeprom
-    ∙ ap (λ (m : Machine). cond (bitSet v 1) (timerStarted m) m)
-    (c .before .timer-stopped .ensures slots registers latch key eeprom
-    ∙ ap (λ (m : Machine). cond (bitSet v 2) (timerStopped m) m)
-    (c .before .before .flushed .ensures slots registers latch key eeprom ∙ ap (λ (t : Bool). cond t (flushed before) before) bit-0)))
+    let bit-0 : eqb (v % 2) 1 ≡ bitSet v 0 = ap (λ (n : ℕ). eqb (n % 2) 1) (sym (div-one v)) in (
+      λ slots latch key eeprom.
+          let before = viewOf (a .core) slots registers latch key eeprom in
+          ap (withControl (32 * bit v 5 + 16 * bit v 4))
+          (c .timer-started .ensures .0 slots latch key eeprom
+          ∙ ap (λ (m : Machine). cond (bitSet v 1) (timerStarted m) m)
+          (c .before .timer-stopped .ensures .0 slots registers latch key eeprom
+          ∙ ap (λ (m : Machine). cond (bitSet v 2) (timerStopped m) m)
+          (c .before .before .flushed .ensures .0 slots registers latch key eeprom ∙ ap (λ (t : Bool). cond t (flushed before) before) bit-0))),
+      λ agrees. c .timer-started .ensures .1 (c .before .timer-stopped .ensures .1 (c .before .before .flushed .ensures .1 agrees)),
+    )
 
 pub written-spec : {M : Type 1} → statement M
 written-spec =

@@ -32,10 +32,13 @@ preset-requires c κs = search needs
 
 returns : tie.Need-returns
 unfolding viewOf
-returns c slots latch key eeprom =
-    let a = c .before .before .before .before .args in
-    let unit = registerAt (viewOf (a .core) slots (now (a .registers)) latch key eeprom) in
-    ap (λ (n : ℕ). withChecksum (record { register = n; mode = unit 0x22 }) (viewOf (a .core) slots (now (a .registers)) latch key eeprom)) (c .preset .ensures)
+returns c =
+    let a = c .before .before .before .before .args in (
+      λ slots latch key eeprom.
+          let unit = registerAt (viewOf (a .core) slots (now (a .registers)) latch key eeprom) in
+          ap (λ (n : ℕ). withChecksum (record { register = n; mode = unit 0x22 }) (viewOf (a .core) slots (now (a .registers)) latch key eeprom)) (c .preset .ensures),
+      λ agrees. agrees,
+    )
 
 pub started-spec : {M : Type 1} → statement M
 started-spec =

@@ -21,13 +21,16 @@ emptied-requires c κs = search needs
 
 returns : tie.Need-returns
 unfolding viewOf
-returns c registers latch key eeprom =
+returns c =
     let a = c .before .before .before .before .before .args in
-    let unit = a .core .checksum in
-    let m = viewOf (a .core) (now (a .slots)) registers latch key eeprom in
-    ap (withChecksum (record { register = c .before .absorbed .result; mode = unit .mode })) (c .emptied .ensures (now (a .slots)) registers latch key eeprom)
-    ∙ ap (λ (n : ℕ). withChecksum (record { register = n; mode = unit .mode }) (withHeld [] m))
-    (c .before .absorbed .ensures ∙ ap (λ (n : ℕ). absorbedAll (unit .mode) (unit .register) (heldFrom (now (a .slots)) (a .core .ring .read) n)) (c .before .before .held .ensures))
+    let unit = a .core .checksum in (
+      λ registers latch key eeprom.
+          let m = viewOf (a .core) (now (a .slots)) registers latch key eeprom in
+          ap (withChecksum (record { register = c .before .absorbed .result; mode = unit .mode })) (c .emptied .ensures .0 (now (a .slots)) registers latch key eeprom)
+          ∙ ap (λ (n : ℕ). withChecksum (record { register = n; mode = unit .mode }) (withHeld [] m))
+          (c .before .absorbed .ensures ∙ ap (λ (n : ℕ). absorbedAll (unit .mode) (unit .register) (heldFrom (now (a .slots)) (a .core .ring .read) n)) (c .before .before .held .ensures)),
+      c .emptied .ensures .1,
+    )
 
 pub taken-spec : {M : Type 1} → statement M
 taken-spec = tie.close (tie.spec held-requires absorbed-requires emptied-requires returns)

@@ -11,9 +11,11 @@ use Rattle.chip.proofs.fifo.emptied.Tie as tie
 
 returns : tie.Need-returns
 unfolding viewOf
-returns c slots registers latch key eeprom =
-    let core = c .before .args .core in
-    ap (λ (l : List ℕ). withHeld l (viewOf core slots registers latch key eeprom)) (held-none slots (core .ring .write) _ (omega arith))
+returns c =
+    let core = c .before .args .core in (
+      λ slots registers latch key eeprom. ap (λ (l : List ℕ). withHeld l (viewOf core slots registers latch key eeprom)) (held-none slots (core .ring .write) _ (omega arith)),
+      λ agrees. agrees,
+    )
 
 pub emptied-spec : {M : Type 1} → statement M
 emptied-spec = tie.close (tie.spec returns)

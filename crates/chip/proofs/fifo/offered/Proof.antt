@@ -6,6 +6,7 @@ use native.Mathlib.Omega.{arith}
 use lib.ListN.{length-set}
 use Rattle.machine.specs.State.{withHeld, withErrors, Errors}
 use Rattle.chip.specs.View.{viewOf}
+use Rattle.chip.proofs.KeepLaws.{keep-errors-or}
 use Rattle.chip.proofs.RingLaws.{ring-length, ring-stored, offer-stored, offer-refused, overflow-marked}
 use borrow.Author.Needs.{needs}
 use Rattle.chip.proofs.fifo.offered.Statement.{statement}
@@ -33,7 +34,7 @@ returns c =
           ap (λ (l : List ℕ). withHeld l before)
           (ring-stored ring (a .slots .now) (omega arith) (omega arith) (a .byte) (c .wrapping-add-u8 .result) (omega arith) whole (c .wrapping-add-u8 .ensures))
           ∙ sym (offer-stored (a .byte) before (rw (ring-length ring (a .slots .now)) (omega arith))),
-      length-set (a .slots .now) (ring .write % 64) (a .byte),
+      (length-set (a .slots .now) (ring .write % 64) (a .byte), λ agrees. agrees),
     )
 
 returns-2 : tie.Need-returns-2
@@ -45,7 +46,7 @@ returns-2 c =
           let before = viewOf (a .core) (a .slots .now) registers latch key eeprom in
           ap (λ (e : Errors). withErrors e before) (overflow-marked (a .core .errors))
           ∙ sym (offer-refused (a .byte) before (rw (ring-length ring (a .slots .now)) (omega arith))),
-      refl,
+      (refl, keep-errors-or (a .core) 0x10 refl),
     )
 
 pub offered-spec : {M : Type 1} → statement M

@@ -19,21 +19,27 @@ emptied-requires c κs = search needs
 
 returns : tie.Need-returns
 unfolding viewOf
-returns c slots registers latch key eeprom =
-    let a = c .before .before .before .args in
-    c .emptied .ensures slots registers latch key eeprom
-    ∙ ap (λ (l : List ℕ). withHeld l (viewOf (a .core) slots registers latch key eeprom))
-    (sym (drop-of-length-le (heldOf (a .core .ring) slots) {i = a .count} (rw (ring-length (a .core .ring) slots) (omega arith))))
+returns c =
+    let a = c .before .before .before .args in (
+      λ slots registers latch key eeprom.
+          c .emptied .ensures .0 slots registers latch key eeprom
+          ∙ ap (λ (l : List ℕ). withHeld l (viewOf (a .core) slots registers latch key eeprom))
+          (sym (drop-of-length-le (heldOf (a .core .ring) slots) {i = a .count} (rw (ring-length (a .core .ring) slots) (omega arith)))),
+      c .emptied .ensures .1,
+    )
 
 wrapping-add-u8-requires : tie.Need-wrapping-add-u8-requires
 wrapping-add-u8-requires c κs = search needs
 
 returns-2 : tie.Need-returns-2
 unfolding viewOf
-returns-2 c slots registers latch key eeprom =
-    let a = c .before .before .before .before .args in
-    ap (λ (l : List ℕ). withHeld l (viewOf (a .core) slots registers latch key eeprom))
-    (ring-taken (a .core .ring) slots (omega arith) (omega arith) (a .count) (c .wrapping-add-u8 .result) (omega arith) (c .wrapping-add-u8 .ensures))
+returns-2 c =
+    let a = c .before .before .before .before .args in (
+      λ slots registers latch key eeprom.
+          ap (λ (l : List ℕ). withHeld l (viewOf (a .core) slots registers latch key eeprom))
+          (ring-taken (a .core .ring) slots (omega arith) (omega arith) (a .count) (c .wrapping-add-u8 .result) (omega arith) (c .wrapping-add-u8 .ensures)),
+      λ agrees. agrees,
+    )
 
 pub taken-spec : {M : Type 1} → statement M
 taken-spec =

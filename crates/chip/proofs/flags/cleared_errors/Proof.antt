@@ -1,6 +1,7 @@
 -- `flags::cleared_errors` meets its contract. Bits 5, 3 and 1 are cleared. Assumes nothing.
 use borrow.Author.Needs.{needs}
 use Rattle.chip.proofs.FlagLaws.{errors-kept}
+use Rattle.chip.proofs.KeepLaws.{errors-kept-keep}
 use Rattle.chip.proofs.flags.cleared_errors.Statement.{statement}
 use Rattle.chip.proofs.flags.cleared_errors.Tie as tie
 
@@ -8,7 +9,12 @@ with-errors-requires : tie.Need-with-errors-requires
 with-errors-requires c κs = search needs
 
 returns : tie.Need-returns
-returns c = errors-kept 0xD5 (c .before .before .args .core) (c .with-errors .result) (c .with-errors .ensures)
+returns c =
+    let core = c .before .before .args .core in
+    let next = c .with-errors in (
+      errors-kept 0xD5 core (next .result) (next .ensures .0),
+      errors-kept-keep core (next .result) 0xD5 (next .ensures .1),
+    )
 
 pub cleared-errors-spec : {M : Type 1} → statement M
 cleared-errors-spec = tie.close (tie.spec with-errors-requires returns)

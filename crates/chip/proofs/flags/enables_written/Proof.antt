@@ -3,6 +3,7 @@ use borrow.Author.Needs.{needs}
 use Rattle.machine.specs.State.{withEnables}
 use Rattle.chip.specs.View.{viewOf}
 use Rattle.chip.proofs.FlagLaws.{turns-as}
+use Rattle.chip.proofs.KeepLaws.{enables-written-keep}
 use Rattle.chip.proofs.flags.enables_written.Statement.{statement}
 use Rattle.chip.proofs.flags.enables_written.Tie as tie
 
@@ -14,7 +15,13 @@ with-enables-requires c κs = search needs
 
 returns : tie.Need-returns
 unfolding viewOf
-returns c = turns-as withEnables (c .before .before .args .core) (c .with-enables .result) (c .before .marked-bits .ensures) (c .with-enables .ensures)
+returns c =
+    let core = c .before .before .args .core in
+    let byte = c .before .marked-bits in
+    let next = c .with-enables in (
+      turns-as withEnables core (next .result) (byte .ensures .0) (next .ensures .0),
+      enables-written-keep core (next .result) (byte .result) (byte .ensures .1) (next .ensures .1),
+    )
 
 pub enables-written-spec : {M : Type 1} → statement M
 enables-written-spec = tie.close (tie.spec marked-bits-requires with-enables-requires returns)

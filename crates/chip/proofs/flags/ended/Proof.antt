@@ -3,6 +3,7 @@ use borrow.Author.Needs.{needs}
 use mathlib.Core.Path.{ap}
 use Rattle.machine.specs.State.{Idle, withCommand}
 use Rattle.chip.specs.View.{viewOf}
+use Rattle.chip.proofs.KeepLaws.{keep-command-idle}
 use Rattle.chip.proofs.flags.ended.Statement.{statement}
 use Rattle.chip.proofs.flags.ended.Tie as tie
 
@@ -11,7 +12,11 @@ raised-idle-requires c κs = search needs
 
 returns : tie.Need-returns
 unfolding viewOf
-returns c = λ slots registers latch key eeprom. ap (withCommand Idle) (c .raised-idle .ensures slots registers latch key eeprom)
+returns c =
+    let next = c .raised-idle in (
+      λ slots registers latch key eeprom. ap (withCommand Idle) (next .ensures .0 slots registers latch key eeprom),
+      λ agrees. keep-command-idle (next .result) (next .ensures .1 agrees),
+    )
 
 pub ended-spec : {M : Type 1} → statement M
 ended-spec = tie.close (tie.spec raised-idle-requires returns)

@@ -13,7 +13,7 @@ add-next c = search needs
 
 returns : tie.Need-returns
 unfolding viewOf
-returns c = λ slots registers latch key eeprom. refl
+returns c = (λ slots registers latch key eeprom. refl, λ agrees. agrees)
 
 pub page-written-spec : {M : Type 1} → statement M
 page-written-spec = tie.close (tie.spec mul-next add-next returns)

@@ -1,6 +1,8 @@
 -- `flags::raised_rx` meets its contract. Bit 3 is set. Assumes nothing.
 use borrow.Author.Needs.{needs}
+use mathlib.Core.Path.{refl}
 use Rattle.chip.proofs.FlagLaws.{requests-set}
+use Rattle.chip.proofs.KeepLaws.{requests-set-keep}
 use Rattle.chip.proofs.flags.raised_rx.Statement.{statement}
 use Rattle.chip.proofs.flags.raised_rx.Tie as tie
 
@@ -8,7 +10,12 @@ with-requests-requires : tie.Need-with-requests-requires
 with-requests-requires c κs = search needs
 
 returns : tie.Need-returns
-returns c = requests-set 0x08 (c .before .before .args .core) (c .with-requests .result) (c .with-requests .ensures)
+returns c =
+    let core = c .before .before .args .core in
+    let next = c .with-requests in (
+      requests-set 0x08 core (next .result) (next .ensures .0),
+      requests-set-keep core (next .result) 0x08 refl (next .ensures .1),
+    )
 
 pub raised-rx-spec : {M : Type 1} → statement M
 raised-rx-spec = tie.close (tie.spec with-requests-requires returns)

@@ -3,6 +3,7 @@ use borrow.Author.Needs.{needs}
 use Rattle.machine.specs.State.{withRequests}
 use Rattle.chip.specs.View.{viewOf}
 use Rattle.chip.proofs.FlagLaws.{turns-as}
+use Rattle.chip.proofs.KeepLaws.{requests-written-keep}
 use Rattle.chip.proofs.flags.requests_written.Statement.{statement}
 use Rattle.chip.proofs.flags.requests_written.Tie as tie
 
@@ -14,7 +15,13 @@ with-requests-requires c κs = search needs
 
 returns : tie.Need-returns
 unfolding viewOf
-returns c = turns-as withRequests (c .before .before .args .core) (c .with-requests .result) (c .before .marked-bits .ensures) (c .with-requests .ensures)
+returns c =
+    let core = c .before .before .args .core in
+    let byte = c .before .marked-bits in
+    let next = c .with-requests in (
+      turns-as withRequests core (next .result) (byte .ensures .0) (next .ensures .0),
+      requests-written-keep core (next .result) (byte .result) (byte .ensures .1) (next .ensures .1),
+    )
 
 pub requests-written-spec : {M : Type 1} → statement M
 requests-written-spec = tie.close (tie.spec marked-bits-requires with-requests-requires returns)

@@ -1,6 +1,8 @@
 -- `flags::with_access_err` meets its contract. Bit 5 is set. Assumes nothing.
 use borrow.Author.Needs.{needs}
+use mathlib.Core.Path.{refl}
 use Rattle.chip.proofs.FlagLaws.{errors-set}
+use Rattle.chip.proofs.KeepLaws.{errors-set-keep}
 use Rattle.chip.proofs.flags.with_access_err.Statement.{statement}
 use Rattle.chip.proofs.flags.with_access_err.Tie as tie
 
@@ -8,7 +10,12 @@ with-errors-requires : tie.Need-with-errors-requires
 with-errors-requires c κs = search needs
 
 returns : tie.Need-returns
-returns c = errors-set 0x20 (c .before .before .args .core) (c .with-errors .result) (c .with-errors .ensures)
+returns c =
+    let core = c .before .before .args .core in
+    let next = c .with-errors in (
+      errors-set 0x20 core (next .result) (next .ensures .0),
+      errors-set-keep core (next .result) 0x20 refl (next .ensures .1),
+    )
 
 pub with-access-err-spec : {M : Type 1} → statement M
 with-access-err-spec = tie.close (tie.spec with-errors-requires returns)

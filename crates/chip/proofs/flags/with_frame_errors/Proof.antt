@@ -1,6 +1,7 @@
 -- `flags::with_frame_errors` meets its contract. Bits 3 and 1 are set by what the two calls ensure of their masks. Assumes nothing.
 use borrow.Author.Needs.{needs}
 use Rattle.chip.proofs.FlagLaws.{frame-errors-set}
+use Rattle.chip.proofs.KeepLaws.{frame-errors-keep}
 use Rattle.chip.proofs.flags.with_frame_errors.Statement.{statement}
 use Rattle.chip.proofs.flags.with_frame_errors.Tie as tie
 
@@ -15,8 +16,13 @@ with-errors-requires c κs = search needs
 
 returns : tie.Need-returns
 returns c =
-    let start = c .before .before .before .before in
-    frame-errors-set (start .args .crc) (start .args .parity) _ _ (start .args .core) (c .with-errors .result) (c .before .before .before .masked .ensures) (c .before .before .masked2 .ensures) (c .with-errors .ensures)
+    let a = c .before .before .before .before .args in
+    let crc = c .before .before .before .masked in
+    let parity = c .before .before .masked2 in
+    let next = c .with-errors in (
+      frame-errors-set (a .crc) (a .parity) (crc .result) (parity .result) (a .core) (next .result) (crc .ensures) (parity .ensures) (next .ensures .0),
+      frame-errors-keep (a .core) (next .result) (a .crc) (a .parity) (crc .result) (parity .result) (crc .ensures) (parity .ensures) (next .ensures .1),
+    )
 
 pub with-frame-errors-spec : {M : Type 1} → statement M
 with-frame-errors-spec =

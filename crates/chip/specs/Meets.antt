@@ -1,7 +1,8 @@
 -- What every event promises, by value or in place: one relation between the chip, the call, the next chip, the answer and the buffer lent.
 -- It says, for every input: refused, so the number, and chip and buffer exactly as before; else the answer, the next machine and every byte
--- lent are what the definition gives, and the next chip is well formed again. What no definition decides (ring positions, slots beyond the held
--- bytes, latch bytes beyond the count) is free where a call is accepted, and as before where it is refused.
+-- lent are what the definition gives, and the next chip is well formed again. What no definition decides is free where a call is accepted,
+-- and as before where it is refused: ring positions, slots beyond the held bytes, latch bytes beyond the count, and WriteE2's next address
+-- before it has one (below 200h).
 -- Assumes nothing.
 use Prim.Native.Nat.{ℕ, suc}
 use mathlib.Core.Bool.{true, cond}

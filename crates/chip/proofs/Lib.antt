@@ -1,8 +1,6 @@
-pub mod CommandLaws
 pub mod CopyLaws
 pub mod FlagLaws
 pub mod FormedLaws
 pub mod KeepLaws
-pub mod ReadingLaws
 pub mod RingLaws
 pub mod TimerLaws

@@ -50,7 +50,7 @@ returns c =
     let end = c .before in
     let a = end .before .args in
     let all : end .loop .i ≡ a .count = omega arith in
-    λ size few. subst (λ (n : ℕ). take n (end .loop .latch) ≡ heldFrom (a .slots .now) (a .position) n) all (end .loop .inv .2 size few)
+    (λ size few. subst (λ (n : ℕ). take n (end .loop .latch) ≡ heldFrom (a .slots .now) (a .position) n) all (end .loop .inv .2 size few), end .loop .inv .1)
 
 pub latch-bytes-spec : {M : Type 1} → statement M
 latch-bytes-spec =

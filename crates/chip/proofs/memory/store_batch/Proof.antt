@@ -4,7 +4,7 @@ use mathlib.Core.Path.{_≡_, refl, sym, ap, _∙_, subst}
 use mathlib.Core.List.{List}
 use Prim.Native.Nat.{ℕ, _+_, _-_, _≤_}
 use native.Mathlib.Omega.{arith}
-use lib.ListN.{length, take}
+use lib.ListN.{length, take, length-set}
 use Rattle.machine.specs.Memory.{storedFrom}
 use Rattle.chip.proofs.CopyLaws.{store-turn}
 use Rattle.chip.proofs.memory.store_batch.Statement.{statement}
@@ -12,14 +12,14 @@ use Rattle.chip.proofs.memory.store_batch.Tie as tie
 
 abbrev Inv-loop : tie.InvT-loop
 Inv-loop eeprom₀ latch address count start end i₀ eeprom i =
-    (i ≤ end) × (length eeprom₀ ≡ 512 → length latch ≡ 16 → count ≤ 16 → address + count ≤ 512 → eeprom ≡ storedFrom eeprom₀ address (take i latch))
+    (i ≤ end) × (length eeprom ≡ length eeprom₀) × (length eeprom₀ ≡ 512 → length latch ≡ 16 → count ≤ 16 → address + count ≤ 512 → eeprom ≡ storedFrom eeprom₀ address (take i latch))
 
 abbrev μ-loop : tie.MeasureT-loop
 μ-loop eeprom₀ latch address count start end i₀ eeprom i = end - i
 
 loop-holds : tie.Need-loop-holds Inv-loop μ-loop
 unfolding storedFrom
-loop-holds c = (search needs, λ a b d f. refl)
+loop-holds c = (search needs, refl, λ a b d f. refl)
 
 add-to : tie.Need-add-to Inv-loop μ-loop
 add-to c = search needs
@@ -41,7 +41,8 @@ loop-again c =
     let turn = c .before .before in
     let a = turn .before .args in (
       search needs,
-      λ whole size few inside. store-turn (a .eeprom .now) (a .latch .now) (turn .loop .eeprom) (a .address) (turn .loop .i) size (omega arith) (omega arith) (turn .loop .inv .1 whole size few inside),
+      simp length-set (turn .loop .inv .1),
+      λ whole size few inside. store-turn (a .eeprom .now) (a .latch .now) (turn .loop .eeprom) (a .address) (turn .loop .i) size (omega arith) (omega arith) (turn .loop .inv .2 whole size few inside),
     )
 
 returns : tie.Need-returns Inv-loop μ-loop
@@ -49,7 +50,7 @@ returns c =
     let end = c .before in
     let a = end .before .args in
     let all : end .loop .i ≡ a .count = omega arith in
-    λ whole size few inside. end .loop .inv .1 whole size few inside ∙ ap (λ (n : ℕ). storedFrom (a .eeprom .now) (a .address) (take n (a .latch .now))) all
+    (λ whole size few inside. end .loop .inv .2 whole size few inside ∙ ap (λ (n : ℕ). storedFrom (a .eeprom .now) (a .address) (take n (a .latch .now))) all, end .loop .inv .1)
 
 pub store-batch-spec : {M : Type 1} → statement M
 store-batch-spec =

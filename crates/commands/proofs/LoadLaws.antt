@@ -1,0 +1,75 @@
+-- Laws of the loads: a key that is judged, the addresses that are accepted, and a core's fields that go on agreeing
+-- where only the byte of the loaded key changes.
+-- Assumes nothing.
+use Prim.Native.Nat.{ℕ, _<_, _≤_}
+use mathlib.Core.Path.{_≡_, sym, ap, _∙_}
+use mathlib.Core.Bool.{Bool, true, false, cond, not, _&&_, _||_, or-true, or-false, and-false}
+use mathlib.Core.List.{List}
+use lib.Dec.{leb}
+use borrow.Author.Tests.{lt-ltb, le-ltb, le-leb, lt-leb}
+use Rattle.key.specs.Key.{formatHolds, judgedKey, emptyKey}
+use Rattle.machine.specs.State.{Machine, withKey, withRegisters}
+use Rattle.machine.specs.Memory.{bytesFrom, overRegisters}
+use Rattle.machine.specs.Commands.{withKeyErr, withAccessErr, keyJudged, keyFrom, configuredFrom}
+use Rattle.machine.proofs.WellFormed.Parts.{both, each}
+use Rattle.chip.specs.View.{isFlag, listed, flowAgrees, writingAgrees, fieldsFormed}
+use Rattle.chip.specs.declared.Core.{Core}
+use Rattle.chip.proofs.KeepLaws.{requestBits, errorBits}
+
+-- A key judged by a test, from these bytes.
+abbrev judgedBy : Machine → Bool → List ℕ → Machine
+judgedBy m t made = withKey (record { loaded = t; bytes = made }) (withKeyErr (m .status .errors .keyErr || not t) m)
+
+module _ (m : Machine) (bytes made : List ℕ) where
+  -- Bytes in the stored form give their key and leave KeyErr as it was.
+  pub judged-loaded : formatHolds bytes ≡ true → made ≡ judgedKey bytes → withKey (record { loaded = true; bytes = made }) m ≡ keyJudged bytes m
+  judged-loaded e is =
+      ap (λ (b : Bool). withKey (record { loaded = true; bytes = made }) (withKeyErr b m)) (sym (or-false (m .status .errors .keyErr)))
+      ∙ ap (λ (t : Bool). judgedBy m t made) (sym e) ∙ ap (judgedBy m (formatHolds bytes)) is
+
+  -- Other bytes give KeyErr and an empty key.
+  pub judged-empty : formatHolds bytes ≡ false → made ≡ judgedKey bytes → withKey (record { loaded = false; bytes = made }) (withKeyErr true m) ≡ keyJudged bytes m
+  judged-empty e is =
+      ap (λ (b : Bool). withKey (record { loaded = false; bytes = made }) (withKeyErr b m)) (sym (or-true (m .status .errors .keyErr)))
+      ∙ ap (λ (t : Bool). judgedBy m t made) (sym e) ∙ ap (judgedBy m (formatHolds bytes)) is
+
+-- LoadKeyE2 and LoadConfig, by their addresses.
+module _ (address : ℕ) (m : Machine) where
+  pub key-above : 0x1F4 < address → withKey (record { loaded = false; bytes = emptyKey }) (withKeyErr true m) ≡ keyFrom address m
+  key-above h =
+      ap (λ (t : Bool). cond t (withKey (record { loaded = false; bytes = emptyKey }) (withKeyErr true m)) (keyJudged (bytesFrom (m .eeprom) address 12) m))
+      (sym (lt-ltb 0x1F4 address h))
+
+  pub key-inside : address ≤ 0x1F4 → keyJudged (bytesFrom (m .eeprom) address 12) m ≡ keyFrom address m
+  key-inside h =
+      ap (λ (t : Bool). cond t (withKey (record { loaded = false; bytes = emptyKey }) (withKeyErr true m)) (keyJudged (bytesFrom (m .eeprom) address 12) m))
+      (sym (le-ltb 0x1F4 address h))
+
+  abbrev configuredBy : Bool → Machine
+  configuredBy t = cond t (withRegisters (overRegisters 0 (m .registers) (bytesFrom (m .eeprom) address 32)) m) (withAccessErr m)
+
+  pub config-below : address < 0x10 → withAccessErr m ≡ configuredFrom address m
+  config-below h = ap (λ (t : Bool). configuredBy (t && leb address 0x60)) (sym (lt-leb 0x10 address h))
+
+  pub config-above : 0x60 < address → withAccessErr m ≡ configuredFrom address m
+  config-above h = ap configuredBy (sym (and-false (leb 0x10 address)) ∙ ap (λ (t : Bool). leb 0x10 address && t) (sym (lt-leb address 0x60 h)))
+
+  pub config-inside : 0x10 ≤ address → address ≤ 0x60 → withRegisters (overRegisters 0 (m .registers) (bytesFrom (m .eeprom) address 32)) m ≡ configuredFrom address m
+  config-inside h k = ap configuredBy (sym (both (le-leb 0x10 address h) (le-leb address 0x60 k)))
+
+-- The byte of the loaded key is another flag, the other fields stay.
+pub keep-loaded : (c : Core) (x : ℕ) → isFlag x ≡ true → fieldsFormed c ≡ true →
+    (listed (c .command)
+    && (flowAgrees (c .command) (c .sending) (c .receiving)
+    && (writingAgrees (c .command) (c .writing)
+    && (requestBits (c .interrupts .enables) && (requestBits (c .interrupts .requests) && (errorBits (c .errors) && (isFlag (c .timer .running) && isFlag x)))))))
+    ≡ true
+keep-loaded c x fits h =
+    let (is-listed, h₁) = each (listed (c .command)) _ h in
+    let (flows, h₂) = each (flowAgrees (c .command) (c .sending) (c .receiving)) _ h₁ in
+    let (writes, h₃) = each (writingAgrees (c .command) (c .writing)) _ h₂ in
+    let (enabled, h₄) = each (requestBits (c .interrupts .enables)) _ h₃ in
+    let (requested, h₅) = each (requestBits (c .interrupts .requests)) _ h₄ in
+    let (flagged, h₆) = each (errorBits (c .errors)) _ h₅ in
+    let (runs, loaded) = each (isFlag (c .timer .running)) _ h₆ in
+    both is-listed (both flows (both writes (both enabled (both requested (both flagged (both runs fits))))))

@@ -11,7 +11,7 @@ use lib.ListN.{length}
 use lib.Pow.{shl-exact}
 use borrow.Author.Tests.{ne-eqb, leb-true, eqb-true}
 use Rattle.machine.specs.State as m
-use Rattle.machine.specs.State.{Command}
+use Rattle.machine.specs.State.{Command, Idle, ReadE2, LoadConfig, LoadKeyE2, LoadKey, CalcCRC, Transmit, Receive, TransceiveSending, TransceiveReceiving}
 use Rattle.machine.specs.WellFormed.{commandFormed, waits}
 use Rattle.machine.proofs.WellFormed.Parts.{either, each}
 use Rattle.chip.specs.View.{heldFrom, isSet, commandOf, listed, flowAgrees, writingAgrees, fieldsFormed}
@@ -34,19 +34,23 @@ one-shifted k h = shl-exact 1 k 32 (omega arith) (omega arith) ∙ one-mul (2 ^ 
 pub held-most : (slots : List ℕ) (position n : ℕ) {held most limit : ℕ} → held ≡ n → most ≡ limit → leb held most ≡ leb (length (heldFrom slots position n)) limit
 held-most slots position n p q = rw (held-length, p, q)
 
+-- What every command but WriteE2 has, a code other than 01h's command has.
+pub others-have : (P : Command → Type 0) (code sends : ℕ) (w : m.Writing) → (code ≡ 0x01 → ⊥) → P ReadE2 → P LoadConfig → P LoadKeyE2 → P CalcCRC → P Receive → P LoadKey → P Transmit →
+    P TransceiveSending → P TransceiveReceiving → P Idle → P (commandOf code sends w)
+others-have P code sends w h p03 p07 p0B p12 p16 p19 p1A sending receiving idle =
+    simp (ne-eqb code 0x01 h)
+    (either P (eqb code 0x03) _ _ p03
+    (either P (eqb code 0x07) _ _ p07
+    (either P (eqb code 0x0B) _ _ p0B
+    (either P (eqb code 0x12) _ _ p12
+    (either P (eqb code 0x16) _ _ p16
+    (either P (eqb code 0x19) _ _ p19
+    (either P (eqb code 0x1A) _ _ p1A
+    (either P (eqb code 0x1E) _ _ (either P (isSet sends) _ _ sending receiving) idle))))))))
+
 -- Every command but WriteE2 is well formed.
 pub others-formed : (code sends : ℕ) (w : m.Writing) → (code ≡ 0x01 → ⊥) → commandFormed (commandOf code sends w) ≡ true
-others-formed code sends w h =
-    let P : Command → Type 0 = λ c. commandFormed c ≡ true in
-    simp (ne-eqb code 0x01 h)
-    (either P (eqb code 0x03) _ _ refl
-    (either P (eqb code 0x07) _ _ refl
-    (either P (eqb code 0x0B) _ _ refl
-    (either P (eqb code 0x12) _ _ refl
-    (either P (eqb code 0x16) _ _ refl
-    (either P (eqb code 0x19) _ _ refl
-    (either P (eqb code 0x1A) _ _ refl
-    (either P (eqb code 0x1E) _ _ (either P (isSet sends) _ _ refl refl) refl))))))))
+others-formed code sends w h = others-have (λ c. commandFormed c ≡ true) code sends w h refl refl refl refl refl refl refl refl refl refl
 
 -- Sixty-four bytes may wait under every code but six. The shape of the premise is that of a `match`'s last arm.
 pub others-wait : (code sends : ℕ) (w : m.Writing) →

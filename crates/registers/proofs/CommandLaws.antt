@@ -9,7 +9,8 @@ use borrow.Author.Tests.{ne-eqb}
 use Rattle.machine.specs.State as m
 use Rattle.machine.specs.State.{Machine, Command, withCommand, addressing, ready, programming}
 use Rattle.machine.specs.Commands.{programs, writingPrograms, clearedErrors, ended, commandStarted, commandWritten}
-use Rattle.machine.proofs.WellFormed.Parts.{either, both, each}
+use Rattle.machine.proofs.WellFormed.Parts.{both, each}
+use Rattle.chip.proofs.FormedLaws.{others-have}
 use Rattle.chip.specs.declared.Core.{Core}
 use Rattle.chip.specs.declared.Writing.{Writing}
 use Rattle.chip.specs.View.{viewOf, isSet, writingOf, commandOf, listed, flowAgrees, writingAgrees, bitsAgree, fieldsFormed}
@@ -17,17 +18,7 @@ use Rattle.chip.specs.Turns.{Turns, TurnsBy}
 
 -- Every command but WriteE2 programs nothing.
 pub others-program : (code sends : ℕ) (w : m.Writing) → (code ≡ 0x01 → ⊥) → programs (commandOf code sends w) ≡ false
-others-program code sends w h =
-    let P : Command → Type 0 = λ c. programs c ≡ false in
-    simp (ne-eqb code 0x01 h)
-    (either P (eqb code 0x03) _ _ refl
-    (either P (eqb code 0x07) _ _ refl
-    (either P (eqb code 0x0B) _ _ refl
-    (either P (eqb code 0x12) _ _ refl
-    (either P (eqb code 0x16) _ _ refl
-    (either P (eqb code 0x19) _ _ refl
-    (either P (eqb code 0x1A) _ _ refl
-    (either P (eqb code 0x1E) _ _ (either P (isSet sends) _ _ refl refl) refl))))))))
+others-program code sends w h = others-have (λ c. programs c ≡ false) code sends w h refl refl refl refl refl refl refl refl refl refl
 
 -- A WriteE2 programs where clocks are left.
 by-left : (none addressed : Bool) (a b left : ℕ) (bs : List ℕ) → not none ≡ writingPrograms (cond none (cond addressed (ready a) addressing) (programming b bs left))

@@ -63,6 +63,7 @@ readings-met =
       length-read-3 = refl;
       programming-time = refl;
       programming-begins = refl;
+      waiting-bytes-begin = refl;
       programming-goes-on = refl;
       prescaler-3-not-at-15 = refl;
       prescaler-3-at-16 = refl;

@@ -64,6 +64,9 @@ pub record Readings : Type 0 where
   -- 5.8 ms at 13,560 clocks a millisecond, and a WriteE2 of one byte begins with all of them
   pub programming-time : 10 * programmingClocks ≡ 58 * 13_560
   pub programming-begins : afterStart (command 0x01 (0x6C ∷ 0x01 ∷ 0xAA ∷ [])) .command ≡ WriteE2 (programming 0x16C (0xAA ∷ []) 78_648)
+  -- bytes that wait when WriteE2 is written are its address and its data at once
+  pub waiting-bytes-begin : afterStart (hostWrite 0x02 0x6C ∷ hostWrite 0x02 0x01 ∷ hostWrite 0x02 0xAA ∷ hostWrite 0x01 0x01 ∷ []) .command ≡ WriteE2 (programming 0x16C (0xAA ∷ []) 78_648)
+  -- one clock of two
   pub programming-goes-on : clock (withCommand (WriteE2 (programming 0x16C (0xAA ∷ []) 2)) (started shippedImage)) .command ≡ WriteE2 (programming 0x16C (0xAA ∷ []) 1)
   -- "Each 2^prescaler clocks make one timer step": reload 2, prescaler 3, so 16 clocks
   pub prescaler-3-not-at-15 : afterStart (prescaler3 15) .status .requests .timer ≡ false

@@ -1,21 +1,20 @@
 -- Laws for judging a state from the core alone: tests that are joined, the count of held bytes, and what most commands share.
 -- Assumes nothing.
-use Prim.Native.Nat.{ℕ, _*_, _%_, _^_, _≤_}
-use native.Mathlib.Nat.{one-mul}
+use Prim.Native.Nat.{ℕ, _≤_}
 use native.Mathlib.Omega.{arith}
-use mathlib.Core.Path.{_≡_, refl, ap, _∙_}
+use mathlib.Core.Path.{_≡_, refl, ap}
 use mathlib.Core.Bool.{Bool, true, false, cond, _&&_}
 use mathlib.Core.List.{List}
 use lib.Dec.{ltb, leb, eqb}
 use lib.ListN.{length}
-use lib.Pow.{shl-exact}
 use borrow.Author.Tests.{ne-eqb, leb-true, eqb-true}
 use Rattle.machine.specs.State as m
 use Rattle.machine.specs.State.{Command, Idle, ReadE2, LoadConfig, LoadKeyE2, LoadKey, CalcCRC, Transmit, Receive, TransceiveSending, TransceiveReceiving}
 use Rattle.machine.specs.WellFormed.{commandFormed, waits}
 use Rattle.machine.proofs.WellFormed.Parts.{either, each}
-use Rattle.chip.specs.View.{heldFrom, isSet, commandOf, listed, flowAgrees, writingAgrees, fieldsFormed}
+use Rattle.chip.specs.View.{heldFrom, isSet, commandOf, fieldsFormed}
 use Rattle.chip.specs.declared.Core.{Core}
+use Rattle.chip.proofs.KeepLaws.{own-fields}
 use Rattle.chip.proofs.RingLaws.{held-length}
 
 -- Tests that are joined, each by its answer. The second may lean on the first.
@@ -25,10 +24,6 @@ joined p q = rw (p, q)
 pub joined-if : {a : Bool} (b s t : Bool) → a ≡ s → (s ≡ true → b ≡ t) → (a && b) ≡ (s && t)
 joined-if b true t p q = joined p (q refl)
 joined-if b false t p q = rw p
-
--- 2^prescaler, as a shift.
-pub one-shifted : (k : ℕ) → k ≤ 21 → 1 * 2 ^ k % 4294967296 ≡ 2 ^ k
-one-shifted k h = shl-exact 1 k 32 (omega arith) (omega arith) ∙ one-mul (2 ^ k)
 
 -- As many bytes are held as the positions say, whatever the slots are.
 pub held-most : (slots : List ℕ) (position n : ℕ) {held most limit : ℕ} → held ≡ n → most ≡ limit → leb held most ≡ leb (length (heldFrom slots position n)) limit
@@ -70,9 +65,4 @@ few false n r s h = leb-true n 16 (each (leb n 16) s h .0)
 
 pub few-latched : (c : Core) → fieldsFormed c ≡ true → c .writing .latched ≤ 16
 few-latched c h =
-    let w = c .writing in
-    let code = c .command in
-    let fields = each (listed code) _ h in
-    let flows = each (flowAgrees code (c .sending) (c .receiving)) _ (fields .1) in
-    let writes = each (writingAgrees code w) _ (flows .1) in
-    few (eqb (w .left) 0) (w .latched) _ _ (each (ltb (w .next) 0x200) _ (writes .0) .1)
+    let w = c .writing in few (eqb (w .left) 0) (w .latched) _ _ (each (ltb (w .next) 0x200) _ (own-fields c h .writes) .1)

@@ -56,16 +56,16 @@ errors-and x m q =
     let (x7, (x2, x0)) = none (bit x 7) (bit x 2) (bit x 0) q in
     nothing (bit (bitAnd x m) 7) (bit (bitAnd x m) 2) (bit (bitAnd x m) 0) (and-clear x m 7 x7) (and-clear x m 2 x2) (and-clear x m 0 x0)
 
--- Whether a core's fields agree, with these four bytes in the place of its own.
-abbrev agrees : Core → ℕ → ℕ → ℕ → ℕ → Bool
-agrees c enables requests errors running =
+-- Whether a core's fields agree, with these five bytes in the place of its own.
+abbrev agrees : Core → ℕ → ℕ → ℕ → ℕ → ℕ → Bool
+agrees c enables requests errors running loaded =
     listed (c .command)
     && (flowAgrees (c .command) (c .sending) (c .receiving)
     && (writingAgrees (c .command) (c .writing)
-    && (requestBits enables && (requestBits requests && (errorBits errors && (isFlag running && isFlag (c .«key_loaded»)))))))
+    && (requestBits enables && (requestBits requests && (errorBits errors && (isFlag running && isFlag loaded))))))
 
 -- The same, test by test.
-record Fields (c : Core) (enables requests errors running : ℕ) : Type 0 where
+pub record Fields (c : Core) (enables requests errors running loaded : ℕ) : Type 0 where
   pub is-listed : listed (c .command) ≡ true
   pub flows : flowAgrees (c .command) (c .sending) (c .receiving) ≡ true
   pub writes : writingAgrees (c .command) (c .writing) ≡ true
@@ -73,10 +73,10 @@ record Fields (c : Core) (enables requests errors running : ℕ) : Type 0 where
   pub requested : requestBits requests ≡ true
   pub flagged : errorBits errors ≡ true
   pub runs : isFlag running ≡ true
-  pub loaded : isFlag (c .«key_loaded») ≡ true
+  pub holds-key : isFlag loaded ≡ true
 
-module _ (c : Core) (enables requests errors running : ℕ) where
-  fields : agrees c enables requests errors running ≡ true → Fields c enables requests errors running
+module _ (c : Core) (enables requests errors running loaded : ℕ) where
+  fields : agrees c enables requests errors running loaded ≡ true → Fields c enables requests errors running loaded
   fields h =
       let (is-listed, h₁) = each (listed (c .command)) _ h in
       let (flows, h₂) = each (flowAgrees (c .command) (c .sending) (c .receiving)) _ h₁ in
@@ -84,10 +84,10 @@ module _ (c : Core) (enables requests errors running : ℕ) where
       let (enabled, h₄) = each (requestBits enables) _ h₃ in
       let (requested, h₅) = each (requestBits requests) _ h₄ in
       let (flagged, h₆) = each (errorBits errors) _ h₅ in
-      let (runs, loaded) = each (isFlag running) _ h₆ in
-      record { is-listed = is-listed; flows = flows; writes = writes; enabled = enabled; requested = requested; flagged = flagged; runs = runs; loaded = loaded }
+      let (runs, holds-key) = each (isFlag running) _ h₆ in
+      record { is-listed = is-listed; flows = flows; writes = writes; enabled = enabled; requested = requested; flagged = flagged; runs = runs; holds-key = holds-key }
 
-  agreed : Fields c enables requests errors running → agrees c enables requests errors running ≡ true
+  agreed : Fields c enables requests errors running loaded → agrees c enables requests errors running loaded ≡ true
   agreed f =
       both (f .is-listed)
       (both (f .flows)
@@ -96,42 +96,48 @@ module _ (c : Core) (enables requests errors running : ℕ) where
       (both (f .requested)
       (both (f .flagged)
       (both (f .runs)
-      (f .loaded)))))))
+      (f .holds-key)))))))
 
 -- One byte is another, the others stay. The ring, the checksum and the page are asked nothing, so that no law is needed where they change.
 module _ (c : Core) where
-  own-fields : fieldsFormed c ≡ true → Fields c (c .interrupts .enables) (c .interrupts .requests) (c .errors) (c .timer .running)
-  own-fields = fields c (c .interrupts .enables) (c .interrupts .requests) (c .errors) (c .timer .running)
+  pub own-fields : fieldsFormed c ≡ true → Fields c (c .interrupts .enables) (c .interrupts .requests) (c .errors) (c .timer .running) (c .«key_loaded»)
+  own-fields = fields c (c .interrupts .enables) (c .interrupts .requests) (c .errors) (c .timer .running) (c .«key_loaded»)
 
-  pub keep-enables : (x : ℕ) → requestBits x ≡ true → fieldsFormed c ≡ true → agrees c x (c .interrupts .requests) (c .errors) (c .timer .running) ≡ true
+  pub keep-enables : (x : ℕ) → requestBits x ≡ true → fieldsFormed c ≡ true → agrees c x (c .interrupts .requests) (c .errors) (c .timer .running) (c .«key_loaded») ≡ true
   keep-enables x fits h =
       let f = own-fields h in
-      agreed c x (c .interrupts .requests) (c .errors) (c .timer .running)
-      (record { is-listed = f .is-listed; flows = f .flows; writes = f .writes; enabled = fits; requested = f .requested; flagged = f .flagged; runs = f .runs; loaded = f .loaded })
+      agreed c x (c .interrupts .requests) (c .errors) (c .timer .running) (c .«key_loaded»)
+      (record { is-listed = f .is-listed; flows = f .flows; writes = f .writes; enabled = fits; requested = f .requested; flagged = f .flagged; runs = f .runs; holds-key = f .holds-key })
 
-  pub keep-requests : (x : ℕ) → requestBits x ≡ true → fieldsFormed c ≡ true → agrees c (c .interrupts .enables) x (c .errors) (c .timer .running) ≡ true
+  pub keep-requests : (x : ℕ) → requestBits x ≡ true → fieldsFormed c ≡ true → agrees c (c .interrupts .enables) x (c .errors) (c .timer .running) (c .«key_loaded») ≡ true
   keep-requests x fits h =
       let f = own-fields h in
-      agreed c (c .interrupts .enables) x (c .errors) (c .timer .running)
-      (record { is-listed = f .is-listed; flows = f .flows; writes = f .writes; enabled = f .enabled; requested = fits; flagged = f .flagged; runs = f .runs; loaded = f .loaded })
+      agreed c (c .interrupts .enables) x (c .errors) (c .timer .running) (c .«key_loaded»)
+      (record { is-listed = f .is-listed; flows = f .flows; writes = f .writes; enabled = f .enabled; requested = fits; flagged = f .flagged; runs = f .runs; holds-key = f .holds-key })
 
-  pub keep-errors : (x : ℕ) → errorBits x ≡ true → fieldsFormed c ≡ true → agrees c (c .interrupts .enables) (c .interrupts .requests) x (c .timer .running) ≡ true
+  pub keep-errors : (x : ℕ) → errorBits x ≡ true → fieldsFormed c ≡ true → agrees c (c .interrupts .enables) (c .interrupts .requests) x (c .timer .running) (c .«key_loaded») ≡ true
   keep-errors x fits h =
       let f = own-fields h in
-      agreed c (c .interrupts .enables) (c .interrupts .requests) x (c .timer .running)
-      (record { is-listed = f .is-listed; flows = f .flows; writes = f .writes; enabled = f .enabled; requested = f .requested; flagged = fits; runs = f .runs; loaded = f .loaded })
+      agreed c (c .interrupts .enables) (c .interrupts .requests) x (c .timer .running) (c .«key_loaded»)
+      (record { is-listed = f .is-listed; flows = f .flows; writes = f .writes; enabled = f .enabled; requested = f .requested; flagged = fits; runs = f .runs; holds-key = f .holds-key })
 
-  pub keep-timer : (x : ℕ) → isFlag x ≡ true → fieldsFormed c ≡ true → agrees c (c .interrupts .enables) (c .interrupts .requests) (c .errors) x ≡ true
+  pub keep-timer : (x : ℕ) → isFlag x ≡ true → fieldsFormed c ≡ true → agrees c (c .interrupts .enables) (c .interrupts .requests) (c .errors) x (c .«key_loaded») ≡ true
   keep-timer x fits h =
       let f = own-fields h in
-      agreed c (c .interrupts .enables) (c .interrupts .requests) (c .errors) x
-      (record { is-listed = f .is-listed; flows = f .flows; writes = f .writes; enabled = f .enabled; requested = f .requested; flagged = f .flagged; runs = fits; loaded = f .loaded })
+      agreed c (c .interrupts .enables) (c .interrupts .requests) (c .errors) x (c .«key_loaded»)
+      (record { is-listed = f .is-listed; flows = f .flows; writes = f .writes; enabled = f .enabled; requested = f .requested; flagged = f .flagged; runs = fits; holds-key = f .holds-key })
+
+  pub keep-loaded : (x : ℕ) → isFlag x ≡ true → fieldsFormed c ≡ true → agrees c (c .interrupts .enables) (c .interrupts .requests) (c .errors) (c .timer .running) x ≡ true
+  keep-loaded x fits h =
+      let f = own-fields h in
+      agreed c (c .interrupts .enables) (c .interrupts .requests) (c .errors) (c .timer .running) x
+      (record { is-listed = f .is-listed; flows = f .flows; writes = f .writes; enabled = f .enabled; requested = f .requested; flagged = f .flagged; runs = f .runs; holds-key = fits })
 
   -- Idle that sends, receives and writes nothing agrees with that, whatever the command was; the bits stay.
   pub keep-command-idle : fieldsFormed c ≡ true → bitsAgree c ≡ true
   keep-command-idle h =
       let f = own-fields h in
-      both (f .enabled) (both (f .requested) (both (f .flagged) (both (f .runs) (f .loaded))))
+      both (f .enabled) (both (f .requested) (both (f .flagged) (both (f .runs) (f .holds-key))))
 
   -- What the core's own bytes meet.
   pub enables-agree : fieldsFormed c ≡ true → requestBits (c .interrupts .enables) ≡ true
@@ -143,14 +149,9 @@ module _ (c : Core) where
   pub errors-agree : fieldsFormed c ≡ true → errorBits (c .errors) ≡ true
   errors-agree h = own-fields h .flagged
 
-  -- The bits of a mask are set in the error flags.
-  pub keep-errors-or : (mask : ℕ) → errorBits mask ≡ true → fieldsFormed c ≡ true →
-      agrees c (c .interrupts .enables) (c .interrupts .requests) (bitOr (c .errors) mask) (c .timer .running) ≡ true
-  keep-errors-or mask fits h = keep-errors (bitOr (c .errors) mask) (errors-or (c .errors) mask fits (errors-agree h)) h
-
   -- The bits of a mask are set in the requests where a test says so, and then those of another.
   pub keep-marked : (low high : Bool) (m n y z : ℕ) → requestBits m ≡ true → requestBits n ≡ true → y ≡ marked low m (c .interrupts .requests) → z ≡ marked high n y →
-      fieldsFormed c ≡ true → agrees c (c .interrupts .enables) z (c .errors) (c .timer .running) ≡ true
+      fieldsFormed c ≡ true → agrees c (c .interrupts .enables) z (c .errors) (c .timer .running) (c .«key_loaded») ≡ true
   keep-marked low high m n y z p q first then h =
       keep-requests z (marked-agrees high n y z q then (marked-agrees low m (c .interrupts .requests) y p first (requests-agree h))) h
     where

@@ -17,7 +17,7 @@ use Rattle.bits.specs.Bits.{bitSet}
 use Rattle.machine.specs.State.{Machine, withHeld, withRequests}
 use Rattle.machine.specs.Fifo.{firstOf, offered, withFifoOvfl, loAlert, hiAlert, alerted}
 use Rattle.chip.specs.declared.Ring.{Ring}
-use Rattle.chip.specs.View.{heldCount, heldFrom, heldOf, errorsOf, interruptsOf}
+use Rattle.chip.specs.View.{heldCount, heldFrom, heldOf, interruptsOf}
 use Rattle.chip.proofs.FlagLaws.{or-bit}
 
 -- So many bytes are held.
@@ -152,18 +152,6 @@ marked-own false mask x k own = sym (or-false (bitSet x k))
 pub marked-other : (t : Bool) (mask x k : ℕ) → bitSet mask k ≡ false → bitSet (marked t mask x) k ≡ bitSet x k
 marked-other true mask x k other = or-bit x mask k ∙ ap (λ (b : Bool). b || bitSet x k) other
 marked-other false mask x k other = refl
-
--- FIFOOvfl is set in ErrorFlag, and no other flag.
-pub overflow-marked : (x : ℕ) →
-    errorsOf (bitOr x 0x10) ≡ record { keyErr = bitSet x 6; accessErr = bitSet x 5; fifoOvfl = true; crcErr = bitSet x 3; parityErr = bitSet x 1 }
-overflow-marked x =
-    simp (
-      marked-other true 0x10 x 6 refl,
-      marked-other true 0x10 x 5 refl,
-      marked-own true 0x10 x 4 refl ∙ or-true (bitSet x 4),
-      marked-other true 0x10 x 3 refl,
-      marked-other true 0x10 x 1 refl,
-    )
 
 -- LoAlert's and HiAlert's requests are set in InterruptRq where tests say so, and no other request.
 pub alerts-marked : (low high : Bool) (x y z : ℕ) → y ≡ marked low 0x01 x → z ≡ marked high 0x02 y →

@@ -36,7 +36,7 @@ reloadOf registers = getD registers 0x1C 0
 abbrev clocksOf : ℕ → ℕ
 clocksOf p = 1 * 2 ^ p % 0x100000000
 
-clocks-fit : (p : ℕ) → p < 32 → clocksOf p ≡ 2 ^ p
+pub clocks-fit : (p : ℕ) → p < 32 → clocksOf p ≡ 2 ^ p
 clocks-fit = agree clocksOf (λ p. 2 ^ p) 32 tt
 
 pub clocks-some : (p : ℕ) → p < 32 → 1 ≤ clocksOf p

@@ -11,6 +11,7 @@ ghost use Rattle.machine.specs.Commands.{taken as Commands·taken};
 ghost use Rattle.chip.specs.View.{heldCount, heldOf, viewOf};
 ghost use Rattle.chip.specs.Turns.{Turns, TurnsBy, TurnsSlots, Keeps};
 use crate::Core;
+use crate::flags::with_fifo_ovfl;
 
 // How many bytes it holds.
 pub fn held(core: Core) -> u8
@@ -74,16 +75,15 @@ pub fn offered(core: Core, slots: &mut [u8; 64], byte: u8) -> Core
     ensures whole { λ r. ⌜ length (now (slots .exit)) ≡ length (now (slots .entry)) ⌝ }
     ensures keeps { λ r. ⌜ Keeps core r ⌝ }
 {
-    let mut next = core;
-    if held(core) < 64 {
-        let mut ring = core.ring;
-        let slot = (ring.write % 64) as usize;
-        slots[slot] = byte;
-        ring.write = std::num::wrapping_add_u8(ring.write, 1);
-        next.ring = ring;
-    } else {
-        next.errors = core.errors | 0x10;
+    if held(core) >= 64 {
+        return with_fifo_ovfl(core, true);
     }
+    let mut ring = core.ring;
+    let slot = (ring.write % 64) as usize;
+    slots[slot] = byte;
+    ring.write = std::num::wrapping_add_u8(ring.write, 1);
+    let mut next = core;
+    next.ring = ring;
     next
 }
 

@@ -11,10 +11,7 @@ use Rattle.key.specs.Key.{formatHolds, judgedKey, emptyKey}
 use Rattle.machine.specs.State.{Machine, withKey, withRegisters}
 use Rattle.machine.specs.Memory.{bytesFrom, overRegisters}
 use Rattle.machine.specs.Commands.{withKeyErr, withAccessErr, keyJudged, keyFrom, configuredFrom}
-use Rattle.machine.proofs.WellFormed.Parts.{both, each}
-use Rattle.chip.specs.View.{isFlag, listed, flowAgrees, writingAgrees, fieldsFormed}
-use Rattle.chip.specs.declared.Core.{Core}
-use Rattle.chip.proofs.KeepLaws.{requestBits, errorBits}
+use Rattle.machine.proofs.WellFormed.Parts.{both}
 
 -- A key judged by a test, from these bytes.
 abbrev judgedBy : Machine → Bool → List ℕ → Machine
@@ -56,20 +53,3 @@ module _ (address : ℕ) (m : Machine) where
 
   pub config-inside : 0x10 ≤ address → address ≤ 0x60 → withRegisters (overRegisters 0 (m .registers) (bytesFrom (m .eeprom) address 32)) m ≡ configuredFrom address m
   config-inside h k = ap configuredBy (sym (both (le-leb 0x10 address h) (le-leb address 0x60 k)))
-
--- The byte of the loaded key is another flag, the other fields stay.
-pub keep-loaded : (c : Core) (x : ℕ) → isFlag x ≡ true → fieldsFormed c ≡ true →
-    (listed (c .command)
-    && (flowAgrees (c .command) (c .sending) (c .receiving)
-    && (writingAgrees (c .command) (c .writing)
-    && (requestBits (c .interrupts .enables) && (requestBits (c .interrupts .requests) && (errorBits (c .errors) && (isFlag (c .timer .running) && isFlag x)))))))
-    ≡ true
-keep-loaded c x fits h =
-    let (is-listed, h₁) = each (listed (c .command)) _ h in
-    let (flows, h₂) = each (flowAgrees (c .command) (c .sending) (c .receiving)) _ h₁ in
-    let (writes, h₃) = each (writingAgrees (c .command) (c .writing)) _ h₂ in
-    let (enabled, h₄) = each (requestBits (c .interrupts .enables)) _ h₃ in
-    let (requested, h₅) = each (requestBits (c .interrupts .requests)) _ h₄ in
-    let (flagged, h₆) = each (errorBits (c .errors)) _ h₅ in
-    let (runs, loaded) = each (isFlag (c .timer .running)) _ h₆ in
-    both is-listed (both flows (both writes (both enabled (both requested (both flagged (both runs fits))))))

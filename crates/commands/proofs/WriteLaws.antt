@@ -18,6 +18,7 @@ use Rattle.machine.proofs.WellFormed.Parts.{both, each}
 use Rattle.chip.specs.View.{heldFrom, writingOf, commandOf, listed, flowAgrees, writingAgrees, bitsAgree, fieldsFormed}
 use Rattle.chip.specs.declared.Core.{Core}
 use Rattle.chip.specs.declared.Writing.{Writing}
+use Rattle.chip.proofs.KeepLaws.{own-fields, keep-command-idle}
 use Rattle.chip.proofs.RingLaws.{held-length}
 
 -- The first k of the held bytes are k held bytes.
@@ -36,20 +37,12 @@ none-left slots p n k h =
     drop-of-length-le (heldFrom slots p n) {i = k} (omega (arith, held-length slots p n))
     ∙ sym (drop-of-length-le (heldFrom slots p n) {i = n} (omega (arith, held-length slots p n)))
 
--- What agrees where a core's fields do: the code, its flow, how far a WriteE2 is, and the bits.
-clauses : (c : Core) → fieldsFormed c ≡ true →
-    (listed (c .command) ≡ true) × ((flowAgrees (c .command) (c .sending) (c .receiving) ≡ true) × ((writingAgrees (c .command) (c .writing) ≡ true) × (bitsAgree c ≡ true)))
-clauses c formed =
-    let fields = each (listed (c .command)) _ formed in
-    let flows = each (flowAgrees (c .command) (c .sending) (c .receiving)) _ (fields .1) in
-    (fields .0, (flows .0, each (writingAgrees (c .command) (c .writing)) (bitsAgree c) (flows .1)))
-
 -- They go on agreeing where only how far the WriteE2 is changes, and that agrees.
 write-agrees : (c : Core) (w : Writing) → writingAgrees 0x01 w ≡ true → c .command ≡ 0x01 → fieldsFormed c ≡ true →
     (listed (c .command) && (flowAgrees (c .command) (c .sending) (c .receiving) && (writingAgrees (c .command) w && bitsAgree c))) ≡ true
 write-agrees c w new code formed =
-    let (is-listed, (flows, (writes, bits))) = clauses c formed in
-    both is-listed (both flows (both (ap (λ (n : ℕ). writingAgrees n w) code ∙ new) bits))
+    let f = own-fields c formed in
+    both (f .is-listed) (both (f .flows) (both (ap (λ (n : ℕ). writingAgrees n w) code ∙ new) (keep-command-idle c formed)))
 
 -- It has its address, or latched bytes wait for their programming.
 abbrev readyAt : ℕ → Writing
@@ -68,7 +61,7 @@ module _ (c : Core) (x : ℕ) (code : c .command ≡ 0x01) (formed : fieldsForme
 
 -- "the next address is below 200h".
 pub next-below : (c : Core) → fieldsFormed c ≡ true → c .writing .next < 0x200
-next-below c formed = ltb-true (c .writing .next) 0x200 (each (ltb (c .writing .next) 0x200) _ (clauses c formed .1 .1 .0) .0)
+next-below c formed = ltb-true (c .writing .next) 0x200 (each (ltb (c .writing .next) 0x200) _ (own-fields c formed .writes) .0)
 
 -- The code 01h is WriteE2's.
 pub code-writes : (code sends : ℕ) (w : m.Writing) → code ≡ 0x01 → commandOf code sends w ≡ WriteE2 w

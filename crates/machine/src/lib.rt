@@ -2,4 +2,4 @@
 // lists, that the code is proved against.
 //
 // specs/ has one file for each chapter of document 01, and the statements: WellFormedness (every event keeps a machine well formed),
-// SingleClock (advancing by n clocks is n single clocks) and Numbers (the starred numbers).
+// SingleClock (advancing by n clocks is n single clocks), Numbers (the starred numbers) and Readings (right readings by example).

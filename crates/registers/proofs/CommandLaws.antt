@@ -11,6 +11,7 @@ use Rattle.machine.specs.State.{Machine, Command, withCommand, addressing, read
 use Rattle.machine.specs.Commands.{programs, writingPrograms, clearedErrors, ended, commandStarted, commandWritten}
 use Rattle.machine.proofs.WellFormed.Parts.{both, each}
 use Rattle.chip.proofs.FormedLaws.{others-have}
+use Rattle.chip.proofs.KeepLaws.{keep-command-idle}
 use Rattle.chip.specs.declared.Core.{Core}
 use Rattle.chip.specs.declared.Writing.{Writing}
 use Rattle.chip.specs.View.{viewOf, isSet, writingOf, commandOf, listed, flowAgrees, writingAgrees, bitsAgree, fieldsFormed}
@@ -64,7 +65,4 @@ pub switch-agrees : (code sends receives : ℕ) (c : Core) → (listed code && f
     (listed code && (flowAgrees code sends receives && (writingAgrees code (record { addressed = 0; next = 0; latched = 0; left = 0 }) && bitsAgree c))) ≡ true
 switch-agrees code sends receives c given formed =
     let new = each (listed code) (flowAgrees code sends receives) given in
-    let fields = each (listed (c .command)) _ formed in
-    let flows = each (flowAgrees (c .command) (c .sending) (c .receiving)) _ (fields .1) in
-    let writes = each (writingAgrees (c .command) (c .writing)) (bitsAgree c) (flows .1) in
-    both (new .0) (both (new .1) (both (or-true (eqb code 0x01)) (writes .1)))
+    both (new .0) (both (new .1) (both (or-true (eqb code 0x01)) (keep-command-idle c formed)))

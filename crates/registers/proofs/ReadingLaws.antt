@@ -1,9 +1,9 @@
--- Laws of what registers read: what well formed fields say, the bytes that flags make, what a command's code tells of it, and registers by number.
+-- Laws of what registers read: the bytes that flags make, what a command's code tells of it, and registers by number.
 -- Assumes nothing.
-use borrow.Author.Tests.{eqb-true, ltb-true, eq-eqb, ne-eqb, le-leb, lt-ltb, le-ltb}
+use borrow.Author.Tests.{eqb-true, eq-eqb, ne-eqb, le-leb, lt-ltb, le-ltb}
 use mathlib.Core.Path.{_≡_, refl, sym, ap, _∙_}
 use mathlib.Core.Bool.{Bool, true, false, cond, not, Bool·beq, false≢true, _&&_, _||_, and-comm}
-use Prim.Native.Nat.{ℕ, _+_, _%_, _<_, _≤_}
+use Prim.Native.Nat.{ℕ, _%_, _<_, _≤_}
 use native.Mathlib.Omega.{arith}
 use lib.Bits.{bitAnd, and-le-l}
 use lib.Dec.{T, eqb, eqb→eq, ltb}
@@ -14,10 +14,9 @@ use Rattle.machine.specs.State.{Machine, Command, TransceiveSending, Transceive
 use Rattle.machine.specs.Fifo.{registerAt}
 use Rattle.machine.specs.Commands.{codeOf}
 use Rattle.machine.specs.Registers.{interruptByte, errorByte, registerRead}
-use Rattle.machine.proofs.WellFormed.Parts.{each}
-use Rattle.chip.specs.declared.Core.{Core}
-use Rattle.chip.specs.View.{isSet, isFlag, interruptsOf, errorsOf, listed, flowAgrees, writingAgrees, bitsAgree, fieldsFormed, commandOf}
+use Rattle.chip.specs.View.{isSet, interruptsOf, errorsOf, listed, commandOf}
 use Rattle.chip.proofs.FlagLaws.{and-bit}
+use Rattle.chip.proofs.KeepLaws.{errorBits}
 
 -- The part that passes, where the other one fails.
 left-of : (a b : Bool) → b ≡ false → (a || b) ≡ true → a ≡ true
@@ -34,33 +33,6 @@ same-test false true t = absurd t
 implied : (a b : Bool) → T (not a || b) → a ≡ true → T b
 implied true b t h = t
 implied false b t h = absurd (false≢true h)
-
--- The bits of ErrorFlag that always read 0 are 0.
-abbrev pub fixedZero : ℕ → Bool
-fixedZero x = eqb (bit x 7 + (bit x 2 + bit x 0)) 0
-
--- What well formed fields say, field by field.
-module _ (c : Core) (formed : fieldsFormed c ≡ true) where
-  pub formed-listed : listed (c .command) ≡ true
-  formed-listed = each (listed (c .command)) _ formed .0
-
-  formed-bits : bitsAgree c ≡ true
-  formed-bits =
-      let (known, h₁) = each (listed (c .command)) _ formed in
-      let (flows, h₂) = each (flowAgrees (c .command) (c .sending) (c .receiving)) _ h₁ in
-      each (writingAgrees (c .command) (c .writing)) (bitsAgree c) h₂ .1
-
-  pub formed-enables : c .interrupts .enables < 64
-  formed-enables = ltb-true _ _ (each (ltb (c .interrupts .enables) 64) _ formed-bits .0)
-
-  after-enables : (ltb (c .interrupts .requests) 64 && (fixedZero (c .errors) && (isFlag (c .timer .running) && isFlag (c .«key_loaded»)))) ≡ true
-  after-enables = each (ltb (c .interrupts .enables) 64) _ formed-bits .1
-
-  pub formed-requests : c .interrupts .requests < 64
-  formed-requests = ltb-true _ _ (each (ltb (c .interrupts .requests) 64) _ after-enables .0)
-
-  pub formed-errors : fixedZero (c .errors) ≡ true
-  formed-errors = each (fixedZero (c .errors)) _ (each (ltb (c .interrupts .requests) 64) _ after-enables .1) .0
 
 -- A bit of an and, in its operands' order.
 both-set : (x y k : ℕ) → bitSet (bitAnd x y) k ≡ (bitSet x k && bitSet y k)
@@ -83,9 +55,9 @@ common-set x y h = any-set (bitAnd x y) (omega (arith, and-le-l x y)) ∙ simp (
 pub interrupt-byte : (x : ℕ) → x < 64 → interruptByte (interruptsOf x) ≡ x
 interrupt-byte x h = agree (λ n. interruptByte (interruptsOf n)) (λ n. n) 64 tt x h
 
-pub error-byte : (x : ℕ) → x < 256 → fixedZero x ≡ true → errorByte (errorsOf x) ≡ x
+pub error-byte : (x : ℕ) → x < 256 → errorBits x ≡ true → errorByte (errorsOf x) ≡ x
 error-byte x h zeros =
-    eqb→eq (errorByte (errorsOf x)) x (implied (fixedZero x) (eqb (errorByte (errorsOf x)) x) (each-below (λ n. not (fixedZero n) || eqb (errorByte (errorsOf n)) n) 256 tt x h) zeros)
+    eqb→eq (errorByte (errorsOf x)) x (implied (errorBits x) (eqb (errorByte (errorsOf x)) x) (each-below (λ n. not (errorBits n) || eqb (errorByte (errorsOf n)) n) 256 tt x h) zeros)
 
 -- The command that a listed code stands for has this code.
 code-arm : (code k : ℕ) (c d : Command) → codeOf c ≡ k → (eqb code k ≡ false → codeOf d ≡ code) → codeOf (cond (eqb code k) c d) ≡ code

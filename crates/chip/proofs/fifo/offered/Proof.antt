@@ -4,10 +4,9 @@ use mathlib.Core.List.{List}
 use Prim.Native.Nat.{ℕ, _%_}
 use native.Mathlib.Omega.{arith}
 use lib.ListN.{length-set}
-use Rattle.machine.specs.State.{withHeld, withErrors, Errors}
+use Rattle.machine.specs.State.{withHeld}
 use Rattle.chip.specs.View.{viewOf}
-use Rattle.chip.proofs.KeepLaws.{keep-errors-or}
-use Rattle.chip.proofs.RingLaws.{ring-length, ring-stored, offer-stored, offer-refused, overflow-marked}
+use Rattle.chip.proofs.RingLaws.{ring-length, ring-stored, offer-stored, offer-refused}
 use borrow.Author.Needs.{needs}
 use Rattle.chip.proofs.fifo.offered.Statement.{statement}
 use Rattle.chip.proofs.fifo.offered.Tie as tie
@@ -24,9 +23,24 @@ element-write-slots c = search needs
 wrapping-add-u8-requires : tie.Need-wrapping-add-u8-requires
 wrapping-add-u8-requires c κs = search needs
 
+with-fifo-ovfl-requires : tie.Need-with-fifo-ovfl-requires
+with-fifo-ovfl-requires c κs = search needs
+
 returns : tie.Need-returns
 unfolding viewOf
 returns c =
+    let a = c .before .before .before .args in
+    let ring = a .core .ring in (
+      λ whole registers latch key eeprom.
+          let before = viewOf (a .core) (a .slots .now) registers latch key eeprom in
+          c .with-fifo-ovfl .ensures .0 (a .slots .now) registers latch key eeprom
+          ∙ sym (offer-refused (a .byte) before (rw (ring-length ring (a .slots .now)) (omega arith))),
+      (refl, c .with-fifo-ovfl .ensures .1),
+    )
+
+returns-2 : tie.Need-returns-2
+unfolding viewOf
+returns-2 c =
     let a = c .before .before .before .before .before .args in
     let ring = a .core .ring in (
       λ whole registers latch key eeprom.
@@ -37,25 +51,14 @@ returns c =
       (length-set (a .slots .now) (ring .write % 64) (a .byte), λ agrees. agrees),
     )
 
-returns-2 : tie.Need-returns-2
-unfolding viewOf
-returns-2 c =
-    let a = c .before .before .before .args in
-    let ring = a .core .ring in (
-      λ whole registers latch key eeprom.
-          let before = viewOf (a .core) (a .slots .now) registers latch key eeprom in
-          ap (λ (e : Errors). withErrors e before) (overflow-marked (a .core .errors))
-          ∙ sym (offer-refused (a .byte) before (rw (ring-length ring (a .slots .now)) (omega arith))),
-      (refl, keep-errors-or (a .core) 0x10 refl),
-    )
-
 pub offered-spec : {M : Type 1} → statement M
 offered-spec =
     tie.close
     (tie.spec
     held-requires
+    with-fifo-ovfl-requires
+    returns
     cast-slot
     element-write-slots
     wrapping-add-u8-requires
-    returns
     returns-2)

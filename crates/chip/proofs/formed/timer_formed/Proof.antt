@@ -2,7 +2,7 @@
 use borrow.Author.Tests.{eq-eqb, ne-eqb, le-leb, lt-leb}
 use native.Mathlib.Omega.{arith}
 use mathlib.Core.Bool.{and-false}
-use Rattle.chip.proofs.FormedLaws.{one-shifted}
+use Rattle.chip.proofs.TimerLaws.{clocks-fit}
 use borrow.Author.Needs.{needs}
 use Rattle.chip.proofs.formed.timer_formed.Statement.{statement}
 use Rattle.chip.proofs.formed.timer_formed.Tie as tie
@@ -26,7 +26,7 @@ returns-3 c =
     let started = c .before .before .before .before .before in
     let t = started .before .before .args .timer in
     let small = c .before .before .before .if2 .left in
-    simp (eq-eqb _ _ (started .if1 .left), le-leb (t .value) 255 (omega arith), le-leb _ _ small, one-shifted (t .prescaler) small)
+    simp (eq-eqb _ _ (started .if1 .left), le-leb (t .value) 255 (omega arith), le-leb _ _ small, clocks-fit (t .prescaler) (omega arith))
 
 pub timer-formed-spec : {M : Type 1} → statement M
 timer-formed-spec = tie.close (tie.spec returns returns-2 cast-result shl-result returns-3)

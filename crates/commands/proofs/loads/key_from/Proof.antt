@@ -10,7 +10,8 @@ use Rattle.key.specs.Key.{emptyKey}
 use Rattle.machine.specs.State.{withKey}
 use Rattle.machine.specs.Commands.{keyJudged}
 use Rattle.chip.specs.View.{viewOf}
-use Rattle.commands.proofs.LoadLaws.{key-above, key-inside, keep-loaded}
+use Rattle.commands.proofs.LoadLaws.{key-above, key-inside}
+use Rattle.chip.proofs.KeepLaws.{keep-loaded}
 use Rattle.commands.proofs.loads.key_from.Statement.{statement}
 use Rattle.commands.proofs.loads.key_from.Tie as tie
 

@@ -4,7 +4,8 @@ use mathlib.Core.Path.{refl, sym, ap, _∙_}
 use mathlib.Core.Bool.{false}
 use Rattle.machine.specs.State.{withKey}
 use Rattle.chip.specs.View.{viewOf}
-use Rattle.commands.proofs.LoadLaws.{judged-loaded, judged-empty, keep-loaded}
+use Rattle.commands.proofs.LoadLaws.{judged-loaded, judged-empty}
+use Rattle.chip.proofs.KeepLaws.{keep-loaded}
 use Rattle.commands.proofs.loads.key_judged.Statement.{statement}
 use Rattle.commands.proofs.loads.key_judged.Tie as tie
 

@@ -5,14 +5,15 @@ use Prim.Native.Nat.{ℕ}
 use native.Mathlib.Omega.{arith}
 use lib.Dec.{eqb}
 use Rattle.chip.specs.View.{viewOf}
-use Rattle.registers.proofs.ReadingLaws.{formed-errors, error-byte}
+use Rattle.chip.proofs.KeepLaws.{own-fields}
+use Rattle.registers.proofs.ReadingLaws.{error-byte}
 use Rattle.registers.proofs.reading.err.Statement.{statement}
 use Rattle.registers.proofs.reading.err.Tie as tie
 
 returns : tie.Need-returns
 unfolding viewOf
 returns c formed slots registers latch key eeprom =
-    let core = c .before .args .core in ap (λ (n : ℕ). not (eqb n 0)) (sym (error-byte (core .errors) (omega arith) (formed-errors core formed)))
+    let core = c .before .args .core in ap (λ (n : ℕ). not (eqb n 0)) (sym (error-byte (core .errors) (omega arith) (own-fields core formed .flagged)))
 
 pub err-spec : {M : Type 1} → statement M
 err-spec = tie.close (tie.spec returns)

@@ -1,13 +1,15 @@
 -- `reading::irq` meets its contract: a bit that both bytes have. Assumes nothing.
 use Rattle.chip.specs.View.{viewOf}
-use Rattle.registers.proofs.ReadingLaws.{formed-enables, common-set}
+use borrow.Author.Tests.{ltb-true}
+use Rattle.chip.proofs.KeepLaws.{own-fields}
+use Rattle.registers.proofs.ReadingLaws.{common-set}
 use Rattle.registers.proofs.reading.irq.Statement.{statement}
 use Rattle.registers.proofs.reading.irq.Tie as tie
 
 returns : tie.Need-returns
 unfolding viewOf
 returns c formed slots registers latch key eeprom =
-    let core = c .before .before .args .core in common-set (core .interrupts .enables) (core .interrupts .requests) (formed-enables core formed)
+    let core = c .before .before .args .core in common-set (core .interrupts .enables) (core .interrupts .requests) (ltb-true _ _ (own-fields core formed .enabled))
 
 pub irq-spec : {M : Type 1} → statement M
 irq-spec = tie.close (tie.spec returns)

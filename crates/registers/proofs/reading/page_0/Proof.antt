@@ -6,7 +6,9 @@ use native.Mathlib.Omega.{arith}
 use Rattle.machine.specs.Registers.{registerRead}
 use Rattle.chip.specs.View.{viewOf, writingOf}
 use Rattle.chip.proofs.RingLaws.{ring-length}
-use Rattle.registers.proofs.ReadingLaws.{formed-listed, formed-enables, formed-requests, code-of-listed, interrupt-byte, read-as}
+use borrow.Author.Tests.{ltb-true}
+use Rattle.chip.proofs.KeepLaws.{own-fields}
+use Rattle.registers.proofs.ReadingLaws.{code-of-listed, interrupt-byte, read-as}
 use Rattle.registers.proofs.reading.page_0.Statement.{statement}
 use Rattle.registers.proofs.reading.page_0.Tie as tie
 
@@ -15,7 +17,7 @@ unfolding viewOf registerRead
 returns c formed small above below latch key eeprom =
     let a = c .before .args in
     read-as (a .register) 0x01 _ (viewOf (a .core) (now (a .slots)) (now (a .registers)) latch key eeprom) (c .if1 .taken)
-    (sym (code-of-listed (a .core .command) (a .core .sending) (writingOf (a .core .writing) latch) (formed-listed (a .core) formed)))
+    (sym (code-of-listed (a .core .command) (a .core .sending) (writingOf (a .core .writing) latch) (own-fields (a .core) formed .is-listed)))
 
 first-requires : tie.Need-first-requires
 first-requires c κs = search needs
@@ -62,7 +64,7 @@ unfolding viewOf registerRead
 returns-6 c formed small above below latch key eeprom =
     let a = c .before .before .before .before .before .before .before .args in
     read-as (a .register) 0x06 _ (viewOf (a .core) (now (a .slots)) (now (a .registers)) latch key eeprom) (c .if6 .taken)
-    (sym (interrupt-byte (a .core .interrupts .enables) (formed-enables (a .core) formed)))
+    (sym (interrupt-byte (a .core .interrupts .enables) (ltb-true _ _ (own-fields (a .core) formed .enabled))))
 
 returns-7 : tie.Need-returns-7
 unfolding viewOf registerRead
@@ -70,7 +72,7 @@ returns-7 c formed small above below latch key eeprom =
     let a = c .before .before .before .before .before .before .before .args in
     let last : a .register ≡ 0x07 = omega arith in
     read-as (a .register) 0x07 _ (viewOf (a .core) (now (a .slots)) (now (a .registers)) latch key eeprom) last
-    (sym (interrupt-byte (a .core .interrupts .requests) (formed-requests (a .core) formed)))
+    (sym (interrupt-byte (a .core .interrupts .requests) (ltb-true _ _ (own-fields (a .core) formed .requested))))
 
 pub page-0-spec : {M : Type 1} → statement M
 page-0-spec =

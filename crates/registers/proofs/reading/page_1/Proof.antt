@@ -5,7 +5,8 @@ use Prim.Native.Nat.{ℕ, _%_, _/_}
 use native.Mathlib.Omega.{arith}
 use Rattle.machine.specs.Registers.{registerRead}
 use Rattle.chip.specs.View.{viewOf}
-use Rattle.registers.proofs.ReadingLaws.{formed-errors, error-byte, read-as}
+use Rattle.chip.proofs.KeepLaws.{own-fields}
+use Rattle.registers.proofs.ReadingLaws.{error-byte, read-as}
 use Rattle.registers.proofs.reading.page_1.Statement.{statement}
 use Rattle.registers.proofs.reading.page_1.Tie as tie
 
@@ -21,7 +22,7 @@ unfolding viewOf registerRead
 returns-2 c formed above below slots registers latch key eeprom =
     let a = c .before .before .args in
     read-as (a .register) 0x0A _ (viewOf (a .core) slots registers latch key eeprom) (c .if2 .taken)
-    (sym (error-byte (a .core .errors) (omega arith) (formed-errors (a .core) formed)))
+    (sym (error-byte (a .core .errors) (omega arith) (own-fields (a .core) formed .flagged)))
 
 returns-3 : tie.Need-returns-3
 unfolding viewOf registerRead

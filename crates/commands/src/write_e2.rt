@@ -55,6 +55,7 @@ fn batch(count: u8, address: u16) -> u8
 // An address is taken mod 200h before the sum, so that every argument is safe.
 fn latched(core: Core, slots: &[u8; 64], latch: &mut [u8; 16]) -> Core
     ensures turns { λ r. ⌜ (length (now (latch .entry)) ≡ 16 → core .command ≡ 0x01 → core .writing .next < 0x200 → (registers key eeprom : List ℕ) → viewOf r (now (slots .entry)) registers (now (latch .exit)) key eeprom ≡ writeStepped (ready (core .writing .next)) (viewOf core (now (slots .entry)) registers (now (latch .entry)) key eeprom)) ⌝ }
+    ensures whole { λ r. ⌜ length (now (latch .exit)) ≡ length (now (latch .entry)) ⌝ }
     ensures keeps { λ r. ⌜ (core .command ≡ 0x01 → Keeps core r) ⌝ }
 {
     let waiting = held(core);
@@ -83,6 +84,7 @@ fn latched(core: Core, slots: &[u8; 64], latch: &mut [u8; 16]) -> Core
 // One step of an active WriteE2, by how far it is. While programming runs, nothing changes.
 pub fn stepped(core: Core, slots: &[u8; 64], latch: &mut [u8; 16]) -> Core
     ensures turns { λ r. ⌜ (fieldsFormed core ≡ true → core .command ≡ 0x01 → length (now (latch .entry)) ≡ 16 → (registers key eeprom : List ℕ) → viewOf r (now (slots .entry)) registers (now (latch .exit)) key eeprom ≡ writeStepped (writingOf (core .writing) (now (latch .entry))) (viewOf core (now (slots .entry)) registers (now (latch .entry)) key eeprom)) ⌝ }
+    ensures whole { λ r. ⌜ length (now (latch .exit)) ≡ length (now (latch .entry)) ⌝ }
     ensures keeps { λ r. ⌜ (core .command ≡ 0x01 → Keeps core r) ⌝ }
 {
     let writing = core.writing;

@@ -3,7 +3,7 @@ use borrow.Author.Needs.{needs}
 use denote.Ref.{now}
 use native.Mathlib.Omega.{arith}
 use Prim.Native.Nat.{ℕ, _+_, _%_}
-use mathlib.Core.Path.{_≡_, sym, ap, _∙_, subst}
+use mathlib.Core.Path.{_≡_, refl, sym, ap, _∙_, subst}
 use mathlib.Core.List.{List}
 use lib.ListN.{take, drop}
 use Rattle.machine.specs.State.{Command, WriteE2, programming, withCommand}
@@ -25,7 +25,7 @@ returns c =
     let a = c .before .before .args in (
       λ size code below registers key eeprom.
           step-rests (a .core .writing .next) (viewOf (a .core) (now (a .slots)) registers (now (a .latch)) key eeprom) (rw (ring-length (a .core .ring) (now (a .slots))) (omega arith)),
-      λ code agrees. agrees,
+      (refl, λ code agrees. agrees),
     )
 
 with-access-err-requires : tie.Need-with-access-err-requires
@@ -44,7 +44,7 @@ returns-2 c =
           ∙ ap Commands·ended (flagged .ensures .0 (now (a .slots)) registers (now (a .latch)) key eeprom)
           ∙ step-refused (a .core .writing .next) (viewOf (a .core) (now (a .slots)) registers (now (a .latch)) key eeprom)
           (rw (ring-length (a .core .ring) (now (a .slots))) (omega arith)) (omega arith),
-      λ code agrees. c .ended .ensures .1 (flagged .ensures .1 agrees),
+      (refl, λ code agrees. c .ended .ensures .1 (flagged .ensures .1 agrees)),
     )
 
 batch-requires : tie.Need-batch-requires
@@ -85,7 +85,7 @@ returns-3 c =
           ∙ step-latched address n (heldFrom slots read n) m (rw (ring-length (a .core .ring) slots) (omega arith)) (omega arith)
           (ap (λ (k : ℕ). take room (heldFrom slots read k)) (sym (held .ensures)) ∙ counted .batch .ensures .1 .0 slots read)
           (subst (λ (k : ℕ). drop room (heldFrom slots read k) ≡ drop n (heldFrom slots read k)) (held .ensures) (counted .batch .ensures .1 .1 slots read)),
-      λ code agrees. c .taken .ensures .1 (programming-agrees (a .core) (address % 0x200 + n) code agrees n few),
+      (copied .latch-bytes .ensures .1, λ code agrees. c .taken .ensures .1 (programming-agrees (a .core) (address % 0x200 + n) code agrees n few)),
     )
 
 pub latched-spec : {M : Type 1} → statement M

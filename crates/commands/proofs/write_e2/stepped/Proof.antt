@@ -1,7 +1,7 @@
 -- `write_e2::stepped` meets its contract, by how far the command is. Assumes nothing.
 use borrow.Author.Needs.{needs}
 use denote.Ref.{now}
-use mathlib.Core.Path.{sym, ap, _∙_}
+use mathlib.Core.Path.{refl, sym, ap, _∙_}
 use Rattle.machine.specs.State.{Writing}
 use Rattle.machine.specs.Commands.{writeStepped}
 use Rattle.chip.specs.View.{viewOf}
@@ -15,7 +15,7 @@ returns c =
       λ agrees code size registers key eeprom.
           let m = viewOf (a .core) (now (a .slots)) registers (now (a .latch)) key eeprom in
           ap (λ (w : Writing). writeStepped w m) (sym (is-programming (a .core .writing) (now (a .latch)) (c .if1 .taken))),
-      λ code agrees. agrees,
+      (refl, λ code agrees. agrees),
     )
 
 latched-requires : tie.Need-latched-requires
@@ -41,7 +41,7 @@ returns-3 c =
           let m = viewOf (a .core) (now (a .slots)) registers (now (a .latch)) key eeprom in
           c .addressed .ensures .0 code registers (now (a .latch)) key eeprom
           ∙ ap (λ (w : Writing). writeStepped w m) (sym (is-addressing (a .core .writing) (now (a .latch)) (c .before .before .before .if1 .left) (c .before .if2 .left))),
-      c .addressed .ensures .1,
+      (refl, c .addressed .ensures .1),
     )
 
 pub stepped-spec : {M : Type 1} → statement M

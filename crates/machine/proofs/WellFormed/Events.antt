@@ -99,7 +99,7 @@ clocked-good TransceiveSending m (g, is) = g
 clocked-good TransceiveReceiving m (g, is) = g
 
 -- Any number of clocks.
-clocks-good : (n : ℕ) (m : Machine) → Good m → Good (clocks n m)
+pub clocks-good : (n : ℕ) (m : Machine) → Good m → Good (clocks n m)
 unfolding clock clocks
 clocks-good zero m g = g
 clocks-good (suc n) m g = clocks-good n (clock m) (clocked-good (m .command) (timerClock m) (ticked m g))

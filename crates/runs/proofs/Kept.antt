@@ -8,14 +8,14 @@ use lib.ListN.{length}
 use borrow.Author.Tests.{eq-eqb}
 use Rattle.machine.specs.State.{Machine}
 use Rattle.machine.specs.Refusals.{Call, start, hostRead, hostWrite, advance, takeFrame, deliver, refusal}
-use Rattle.machine.specs.Events.{Answer, Outcome, done, refused, accepted, perform, bufferOf, started}
+use Rattle.machine.specs.Events.{Outcome, perform, started}
 use Rattle.machine.proofs.Performing.{as-accepted}
 use Rattle.machine.proofs.WellFormed.Kept.{well-formedness}
 use Rattle.journal.specs.Journal.{Journal, Both, empty, called, after}
 use Rattle.journal.specs.Demand.{run, Conserved, NextCall}
 use Rattle.journal.proofs.Demand.{demand-3}
 use Rattle.chip.specs.View.{view, chipFormed}
-use Rattle.chip.specs.Meets.{chipRefusal, Meets}
+use Rattle.chip.specs.Meets.{coded, chipRefusal, Meets}
 use Rattle.chip.specs.declared.Chip.{Chip}
 use Rattle.runs.specs.Run.{Step, callsOf, Run, end, next, AsDefined, Kept, ProgramDemand3}
 
@@ -30,13 +30,13 @@ refused-alike c (takeFrame buffer) formed = ap (λ (t : Bool). cond t (refusal (
 refused-alike c (deliver bytes parities lastBits) formed = ap (λ (t : Bool). cond t (refusal (view c) (deliver bytes parities lastBits)) 7) formed
 
 -- What a call on a well-formed chip gives is what the definition gives.
-record Performed (c : Chip) (call : Call) (d : Chip) (answer : Answer) (buffer : List ℕ) : Type 0 where
+record Performed (c : Chip) (call : Call) (d : Chip) (answer : ℕ) (buffer : List ℕ) : Type 0 where
   machine : view d ≡ perform (view c) call .next
   formed : chipFormed d ≡ true
-  answered : answer ≡ perform (view c) call .answer
+  answered : answer ≡ coded (perform (view c) call .answer)
   lent : buffer ≡ perform (view c) call .buffer
 
-performed : {c d : Chip} {call : Call} {answer : Answer} {buffer : List ℕ} → Meets c call d answer buffer → chipFormed c ≡ true → Performed c call d answer buffer
+performed : {c d : Chip} {call : Call} {answer : ℕ} {buffer : List ℕ} → Meets c call d answer buffer → chipFormed c ≡ true → Performed c call d answer buffer
 performed {c} {d} {call} {answer} {buffer} meets formed = go (refusal (view c) call) refl
   where
     go : (n : ℕ) → refusal (view c) call ≡ n → Performed c call d answer buffer
@@ -46,7 +46,7 @@ performed {c} {d} {call} {answer} {buffer} meets formed = go (refusal (view c) c
         record {
           machine = given .1 ∙ ap (λ (o : Outcome). o .next) same;
           formed = given .3;
-          answered = given .0 ∙ ap (λ (o : Outcome). o .answer) same;
+          answered = given .0 ∙ ap (λ (o : Outcome). coded (o .answer)) same;
           lent = given .2 ∙ ap (λ (o : Outcome). o .buffer) same;
         }
     go (suc n) is =
@@ -55,7 +55,7 @@ performed {c} {d} {call} {answer} {buffer} meets formed = go (refusal (view c) c
         record {
           machine = ap view (given .1) ∙ sym (nothing .0);
           formed = ap chipFormed (given .1) ∙ formed;
-          answered = given .0 ∙ sym (nothing .2);
+          answered = given .0 ∙ ap coded (sym (nothing .2));
           lent = given .2 ∙ sym (nothing .1);
         }
 
@@ -74,7 +74,7 @@ ran (next {s = x} meets rest) s same formed =
     record {
       machine = r .machine;
       formed = r .formed;
-      defined = (p .answered ∙ ap (λ (m : Machine). perform m (x .call) .answer) same, p .lent ∙ ap (λ (m : Machine). perform m (x .call) .buffer) same, r .defined);
+      defined = (p .answered ∙ ap (λ (m : Machine). coded (perform m (x .call) .answer)) same, p .lent ∙ ap (λ (m : Machine). perform m (x .call) .buffer) same, r .defined);
     }
 
 -- A start from a whole image is not refused.
@@ -82,7 +82,7 @@ start-accepted : (c : Chip) (image : List ℕ) → length image ≡ 512 → chip
 unfolding chipRefusal refusal
 start-accepted c image size = ap (λ (t : Bool). cond (not t) 2 0) (eq-eqb (length image) 512 size)
 
-kept : (image : List ℕ) → length image ≡ 512 → (old fresh c : Chip) (buffer : List ℕ) (steps : List Step) → Meets old (start image) fresh done buffer → Run fresh steps c → Kept image steps c
+kept : (image : List ℕ) → length image ≡ 512 → (old fresh c : Chip) (buffer : List ℕ) (steps : List Step) → Meets old (start image) fresh 0 buffer → Run fresh steps c → Kept image steps c
 unfolding after
 kept image size old fresh c buffer steps begins runs =
     let first = begins .accepts (start-accepted old image size) in

@@ -8,17 +8,17 @@ use mathlib.Core.Path.{_≡_}
 use lib.ListN.{length}
 use Rattle.machine.specs.State.{Machine}
 use Rattle.machine.specs.Refusals.{Call, start}
-use Rattle.machine.specs.Events.{Answer, done, perform}
+use Rattle.machine.specs.Events.{perform}
 use Rattle.journal.specs.Journal.{Both, called, after}
 use Rattle.journal.specs.Demand.{run, Conserved, NextCall}
 use Rattle.chip.specs.View.{view, chipFormed}
-use Rattle.chip.specs.Meets.{Meets}
+use Rattle.chip.specs.Meets.{coded, Meets}
 use Rattle.chip.specs.declared.Chip.{Chip}
 
--- A call with what the program gave back.
+-- A call with what the program gave back: the number answered, and the buffer lent.
 pub record Step : Type 0 where
   pub call : Call
-  pub answer : Answer
+  pub answer : ℕ
   pub buffer : List ℕ
 
 abbrev pub callsOf : List Step → List Call
@@ -32,7 +32,7 @@ pub data Run : Chip → List Step → Chip → Type 0 where
 -- Each step's answer and buffer are what the definition's machine gives at its turn.
 unfoldable pub AsDefined : Machine → List Step → Type 0
 AsDefined m [] = Unit {0}
-AsDefined m (s ∷ steps) = (s .answer ≡ perform m (s .call) .answer) × (s .buffer ≡ perform m (s .call) .buffer) × AsDefined (perform m (s .call) .next) steps
+AsDefined m (s ∷ steps) = (s .answer ≡ coded (perform m (s .call) .answer)) × (s .buffer ≡ perform m (s .call) .buffer) × AsDefined (perform m (s .call) .next) steps
 
 -- What holds after any run from a start that succeeds.
 pub record Kept (image : List ℕ) (steps : List Step) (c : Chip) : Type 0 where
@@ -49,4 +49,4 @@ pub record ProgramDemand3 : Type 0 where
   -- from any chip, a start from an image of 512 bytes, then any run
   pub holds :
       (image : List ℕ) → length image ≡ 512 → (old fresh c : Chip) (buffer : List ℕ) (steps : List Step) →
-      Meets old (start image) fresh done buffer → Run fresh steps c → Kept image steps c
+      Meets old (start image) fresh 0 buffer → Run fresh steps c → Kept image steps c

@@ -1,0 +1,3 @@
+pub mod MeetLaws
+pub mod ReadLaws
+pub mod TypeLaws

@@ -1,0 +1,16 @@
+-- `by_value::host_read` meets its contract: the event on the parts promises it. Assumes nothing.
+use borrow.Author.Needs.{needs}
+use Rattle.events.proofs.TypeLaws.{whole-chip}
+use Rattle.events.proofs.by_value.host_read.Statement.{statement}
+use Rattle.events.proofs.by_value.host_read.Tie as tie
+
+host-read-requires : tie.Need-host-read-requires
+host-read-requires c κs = search needs
+
+returns : tie.Need-returns
+returns c =
+    let place = c .before .before .before .before .before .before .before .before .before .before .before .before in
+    c .before .host-read .ensures (whole-chip (place .args .chip) (place .good .0 .1 .1 .1)) .0
+
+pub host-read-spec : {M : Type 1} → statement M
+host-read-spec = tie.close (tie.spec host-read-requires returns)

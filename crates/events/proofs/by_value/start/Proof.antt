@@ -1,0 +1,16 @@
+-- `by_value::start` meets its contract: the event on the parts promises it. Assumes nothing.
+use borrow.Author.Needs.{needs}
+use Rattle.events.proofs.TypeLaws.{whole-chip}
+use Rattle.events.proofs.by_value.start.Statement.{statement}
+use Rattle.events.proofs.by_value.start.Tie as tie
+
+start-requires : tie.Need-start-requires
+start-requires c κs = search needs
+
+returns : tie.Need-returns
+returns c =
+    let place = c .before .before .before .before .before .before .before .before .before .before .before .before .before in
+    c .before .start .ensures (whole-chip (place .args .chip) (place .good .0 .1 .1 .1)) .0
+
+pub start-spec : {M : Type 1} → statement M
+start-spec = tie.close (tie.spec start-requires returns)

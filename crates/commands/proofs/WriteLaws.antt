@@ -38,7 +38,7 @@ none-left slots p n k h =
     ∙ sym (drop-of-length-le (heldFrom slots p n) {i = n} (omega (arith, held-length slots p n)))
 
 -- They go on agreeing where only how far the WriteE2 is changes, and that agrees.
-write-agrees : (c : Core) (w : Writing) → writingAgrees 0x01 w ≡ true → c .command ≡ 0x01 → fieldsFormed c ≡ true →
+pub write-agrees : (c : Core) (w : Writing) → writingAgrees 0x01 w ≡ true → c .command ≡ 0x01 → fieldsFormed c ≡ true →
     (listed (c .command) && (flowAgrees (c .command) (c .sending) (c .receiving) && (writingAgrees (c .command) w && bitsAgree c))) ≡ true
 write-agrees c w new code formed =
     let f = own-fields c formed in

@@ -1,3 +1,4 @@
 pub mod MeetLaws
 pub mod ReadLaws
+pub mod RefusalLaws
 pub mod TypeLaws

@@ -3,6 +3,7 @@
 pub mod by_value;
 mod fresh;
 pub mod parts;
+mod refusals;
 
 use chip::Chip;
 use chip::Core;

@@ -14,6 +14,9 @@ ghost use Rattle.chip.specs.View.{heldCount, heldFrom, viewOf};
 use chip::Core;
 use chip::fifo::held;
 
+pub mod receiving;
+pub mod sending;
+
 // The lesser of two lengths.
 fn least(a: usize, b: usize) -> usize
     ensures { λ r. ⌜ r ≡ a - (a - b) ⌝ }

@@ -1,5 +1,6 @@
-// Registers on the chip's parts: what each one reads, and what writes to Command and Control do.
+// Registers on the chip's parts: what each one reads, and what a write to it does.
 
 pub mod command_write;
 pub mod control_write;
 pub mod reading;
+pub mod register_write;

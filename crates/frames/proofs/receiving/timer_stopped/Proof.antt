@@ -1,0 +1,17 @@
+-- `receiving::timer_stopped` meets its contract, by the flag. Assumes nothing.
+use borrow.Author.Needs.{needs}
+use mathlib.Core.Path.{refl}
+use Rattle.frames.proofs.receiving.timer_stopped.Statement.{statement}
+use Rattle.frames.proofs.receiving.timer_stopped.Tie as tie
+
+stopped-requires : tie.Need-stopped-requires
+stopped-requires c κs = search needs
+
+returns : tie.Need-returns
+returns c = (λ slots registers latch key eeprom. rw (c .before .if1 .taken) (c .stopped .ensures .0 slots registers latch key eeprom), c .stopped .ensures .1)
+
+returns-2 : tie.Need-returns-2
+returns-2 c = (λ slots registers latch key eeprom. rw (c .if1 .left) refl, λ agrees. agrees)
+
+pub timer-stopped-spec : {M : Type 1} → statement M
+timer-stopped-spec = tie.close (tie.spec stopped-requires returns returns-2)

@@ -3,6 +3,7 @@ use crate::Core;
 use crate::Timer;
 use crate::flags::raised_timer;
 ghost use Prim.Native.Nat.{_<_};
+ghost use mathlib.Core.Bool.{cond};
 ghost use Rattle.machine.specs.State.{withTimer};
 ghost use Rattle.machine.specs.Timer.{stoppedAt, runningAt, timerStarted, timerStopped, timerStepped, timerClock};
 ghost use Rattle.chip.specs.Turns.{Turns, TurnsBy, Keeps};
@@ -59,6 +60,27 @@ pub fn started(core: Core, registers: &[u8; 32]) -> Core
         return stopped_at(core, 0);
     }
     running_at(core, reload, prescaler, 0)
+}
+
+// The timer is started, and stopped, where a flag says so.
+pub fn started_if(core: Core, registers: &[u8; 32], flag: bool) -> Core
+    ensures turns { λ r. ⌜ TurnsBy (now (registers .entry)) (λ m. cond flag (timerStarted m) m) core r ⌝ }
+    ensures keeps { λ r. ⌜ Keeps core r ⌝ }
+{
+    if flag {
+        return started(core, registers);
+    }
+    core
+}
+
+pub fn stopped_if(core: Core, flag: bool) -> Core
+    ensures turns { λ r. ⌜ Turns (λ m. cond flag (timerStopped m) m) core r ⌝ }
+    ensures keeps { λ r. ⌜ Keeps core r ⌝ }
+{
+    if flag {
+        return stopped(core);
+    }
+    core
 }
 
 // One timer step: the value falls, or at 1 TimerIRq is set and the timer stops, or restarts with TAutoRestart.

@@ -1,3 +1,4 @@
 pub mod LoadLaws
 pub mod OfferLaws
+pub mod StepLaws
 pub mod WriteLaws

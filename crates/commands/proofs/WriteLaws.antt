@@ -9,10 +9,10 @@ use mathlib.Core.List.{List, _∷_}
 use lib.Dec.{ltb}
 use lib.ListN.{length, getD, take, drop, drop-of-length-le}
 use lib.Seq.{take-all}
-use borrow.Author.Tests.{eq-eqb, ne-eqb, ltb-true, lt-ltb, le-ltb, le-leb, lt-leb}
+use borrow.Author.Tests.{eq-eqb, ne-eqb, ltb-true, lt-ltb, le-ltb, le-leb}
 use Rattle.machine.specs.State as m
 use Rattle.machine.specs.State.{Machine, WriteE2, addressing, ready, programming, withCommand}
-use Rattle.machine.specs.Memory.{addressOf, roomInBlock, programmingClocks}
+use Rattle.machine.specs.Memory.{roomInBlock, programmingClocks}
 use Rattle.machine.specs.Commands.{ended, withAccessErr, taken, writeStepped}
 use Rattle.machine.proofs.WellFormed.Parts.{both, each}
 use Rattle.chip.specs.View.{heldFrom, writingOf, commandOf, listed, flowAgrees, writingAgrees, bitsAgree, fieldsFormed}
@@ -46,14 +46,14 @@ write-agrees c w new code formed =
 
 -- It has its address, or latched bytes wait for their programming.
 abbrev readyAt : ℕ → Writing
-readyAt x = record { addressed = 1; next = x % 0x200; latched = 0; left = 0 }
+readyAt x = record { addressed = 1; next = x; latched = 0; left = 0 }
 
 abbrev programmingAt : ℕ → ℕ → Writing
 programmingAt x n = record { addressed = 1; next = x % 0x200; latched = n; left = programmingClocks }
 
 module _ (c : Core) (x : ℕ) (code : c .command ≡ 0x01) (formed : fieldsFormed c ≡ true) where
-  pub ready-agrees : (listed (c .command) && (flowAgrees (c .command) (c .sending) (c .receiving) && (writingAgrees (c .command) (readyAt x) && bitsAgree c))) ≡ true
-  ready-agrees = write-agrees c (readyAt x) (both (lt-ltb (x % 0x200) 0x200 (omega arith)) refl) code formed
+  pub ready-agrees : x < 0x200 → (listed (c .command) && (flowAgrees (c .command) (c .sending) (c .receiving) && (writingAgrees (c .command) (readyAt x) && bitsAgree c))) ≡ true
+  ready-agrees below = write-agrees c (readyAt x) (both (lt-ltb x 0x200 below) refl) code formed
 
   pub programming-agrees : (n : ℕ) → n ≤ 16 →
       (listed (c .command) && (flowAgrees (c .command) (c .sending) (c .receiving) && (writingAgrees (c .command) (programmingAt x n) && bitsAgree c))) ≡ true
@@ -67,18 +67,7 @@ next-below c formed = ltb-true (c .writing .next) 0x200 (each (ltb (c .writing .
 pub code-writes : (code sends : ℕ) (w : m.Writing) → code ≡ 0x01 → commandOf code sends w ≡ WriteE2 w
 code-writes code sends w e = rw e refl
 
--- It waits for its address, and takes it.
-pub step-waits : (m : Machine) → length (m .held) < 2 → m ≡ writeStepped addressing m
-step-waits m few = rw (lt-leb 2 (length (m .held)) few) refl
-
-pub step-addressed : (m : Machine) (low high : ℕ) → 2 ≤ length (m .held) → low ≡ getD (m .held) 0 0 → high ≡ getD (m .held) 1 0 →
-    taken 2 (withCommand (WriteE2 (ready (addressOf low high))) m) ≡ writeStepped addressing m
-step-addressed m low high enough is-low is-high = rw (le-leb 2 (length (m .held)) enough, is-low, is-high) refl
-
--- It waits for a byte; it may not write below 010h; it takes bytes, as many as there are or as there is room for, and programs.
-pub step-rests : (a : ℕ) (m : Machine) → length (m .held) < 1 → m ≡ writeStepped (ready a) m
-step-rests a m none = rw (lt-leb 1 (length (m .held)) none) refl
-
+-- It may not write below 010h; else it takes bytes, as many as there are or as there is room for, and programs.
 pub step-refused : (a : ℕ) (m : Machine) → 1 ≤ length (m .held) → a < 0x10 → ended (withAccessErr m) ≡ writeStepped (ready a) m
 step-refused a m some low = rw (le-leb 1 (length (m .held)) some, lt-ltb a 0x10 low) refl
 

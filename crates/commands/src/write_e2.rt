@@ -11,16 +11,16 @@ ghost use Rattle.machine.specs.Memory.{roomInBlock};
 ghost use Rattle.machine.specs.Commands.{writeStepped};
 ghost use Rattle.chip.specs.View.{heldFrom, viewOf, writingOf, fieldsFormed};
 ghost use Rattle.chip.specs.Turns.{Keeps};
+use crate::steps::address;
 use chip::Core;
 use chip::Writing;
-use chip::fifo::argument;
 use chip::fifo::held;
 use chip::fifo::taken;
 use chip::flags::ended;
 use chip::flags::with_access_err;
 use chip::memory::latch_bytes;
 
-// It waits for its address: two bytes, the low one first.
+// It waits for its address, two bytes.
 fn addressed(core: Core, slots: &[u8; 64]) -> Core
     ensures turns { λ r. ⌜ (core .command ≡ 0x01 → (registers latch key eeprom : List ℕ) → viewOf r (now (slots .entry)) registers latch key eeprom ≡ writeStepped addressing (viewOf core (now (slots .entry)) registers latch key eeprom)) ⌝ }
     ensures keeps { λ r. ⌜ (core .command ≡ 0x01 → Keeps core r) ⌝ }
@@ -28,11 +28,9 @@ fn addressed(core: Core, slots: &[u8; 64]) -> Core
     if held(core) < 2 {
         return core;
     }
-    let low = argument(core, slots, 0) as u16;
-    let high = argument(core, slots, 1) as u16;
     let writing = Writing {
         addressed: 1,
-        next: (low + 256 * high) % 0x200,
+        next: address(core, slots),
         latched: 0,
         left: 0,
     };

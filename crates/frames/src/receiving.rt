@@ -1,34 +1,21 @@
 // What a delivery does to the chip: the timer is stopped where TimerControl (2Bh) says so, the frame is judged, the bytes that pass are offered
 // to the FIFO, RxIRq is set, and the command ends.
 ghost use mathlib.Core.Path.{_≡_};
-ghost use mathlib.Core.Bool.{cond};
 ghost use mathlib.Core.List.{List};
 ghost use Prim.Native.Nat.{ℕ};
 ghost use lib.ListN.{length};
-ghost use Rattle.machine.specs.Timer.{timerStopped};
 ghost use Rattle.machine.specs.Frames.{received as Frames·received};
 ghost use Rattle.chip.specs.View.{viewOf};
-ghost use Rattle.chip.specs.Turns.{Turns, Keeps};
+ghost use Rattle.chip.specs.Turns.{Keeps};
 use crate::crc_fails;
 use crate::parity_fails;
 use crate::passed_length;
 use chip::Core;
-use chip::clocks::stopped;
+use chip::clocks::stopped_if;
 use chip::flags::ended;
 use chip::flags::raised_rx;
 use chip::flags::with_frame_errors;
 use commands::offers::offered_bytes;
-
-// The timer is stopped where a bit of TimerControl says so.
-fn timer_stopped(core: Core, flag: bool) -> Core
-    ensures turns { λ r. ⌜ Turns (λ m. cond flag (timerStopped m) m) core r ⌝ }
-    ensures keeps { λ r. ⌜ Keeps core r ⌝ }
-{
-    if flag {
-        return stopped(core);
-    }
-    core
-}
 
 // A delivery. Bits 2 and 3 of TimerControl stop the timer; CRCErr and ParityErr are set beside what they were.
 pub fn received(
@@ -44,7 +31,7 @@ pub fn received(
     ensures keeps { λ r. ⌜ Keeps core r ⌝ }
 {
     let control = registers[0x2B - 0x10];
-    let stops = timer_stopped(core, (control / 4 % 2 == 1) | (control / 8 % 2 == 1));
+    let stops = stopped_if(core, (control / 4 % 2 == 1) | (control / 8 % 2 == 1));
     let crc = crc_fails(registers, bytes, last_bits);
     let parity = parity_fails(registers, bytes, parities, last_bits);
     let mut judged = with_frame_errors(stops, crc, parity);

@@ -1,25 +1,12 @@
 // What a take does to the chip: the FIFO is emptied, the timer is started where TimerControl (2Bh) says so, TxIRq is set, and the command ends
 // or receives.
-ghost use mathlib.Core.Bool.{cond};
-ghost use Rattle.machine.specs.Timer.{timerStarted};
 ghost use Rattle.machine.specs.Frames.{afterSending, sent as Frames·sent};
 ghost use Rattle.chip.specs.Turns.{Turns, TurnsBy, Keeps};
 use chip::Core;
-use chip::clocks::started;
+use chip::clocks::started_if;
 use chip::fifo::emptied;
 use chip::flags::ended;
 use chip::flags::raised_tx;
-
-// TxBegin and TxEnd: the timer is started where its bit of TimerControl is set.
-fn timer_started(core: Core, registers: &[u8; 32], flag: bool) -> Core
-    ensures turns { λ r. ⌜ TurnsBy (now (registers .entry)) (λ m. cond flag (timerStarted m) m) core r ⌝ }
-    ensures keeps { λ r. ⌜ Keeps core r ⌝ }
-{
-    if flag {
-        return started(core, registers);
-    }
-    core
-}
 
 // The frame is sent: a Transceive receives then, and every other command ends.
 fn after_sending(core: Core) -> Core
@@ -41,7 +28,7 @@ pub fn sent(core: Core, registers: &[u8; 32]) -> Core
     ensures keeps { λ r. ⌜ Keeps core r ⌝ }
 {
     let control = registers[0x2B - 0x10];
-    let begun = timer_started(emptied(core), registers, control % 2 == 1);
-    let over = timer_started(begun, registers, control / 2 % 2 == 1);
+    let begun = started_if(emptied(core), registers, control % 2 == 1);
+    let over = started_if(begun, registers, control / 2 % 2 == 1);
     after_sending(raised_tx(over))
 }

@@ -44,7 +44,7 @@ returns c =
           c .raised-tx .ensures .0 (now (a .slots)) registers latch key eeprom
           ∙ ap raisedTx (batch-stored (a .core) latch agrees size m eeprom _ (omega (arith, next-below (a .core) agrees)) code whole inside (stored .store-batch .ensures .0))
           ∙ end-waits (startOf (a .core .writing)) (batchOf (a .core .writing) latch) m (ring-length (a .core .ring) (now (a .slots)) ∙ sym (c .before .before .held .ensures) ∙ c .before .if1 .taken),
-      ((refl, stored .store-batch .ensures .1), λ code agrees. c .raised-tx .ensures .1 (ready-agrees (a .core) (a .core .writing .next) code agrees)),
+      ((refl, stored .store-batch .ensures .1), λ code agrees. c .raised-tx .ensures .1 (ready-agrees (a .core) (a .core .writing .next % 0x200) code agrees (omega arith))),
     )
 
 stepped-requires : tie.Need-stepped-requires
@@ -61,14 +61,14 @@ returns-2 c =
       λ agrees code size whole inside registers key.
           let m = viewOf (a .core) (now (a .slots)) registers latch key (now (a .eeprom)) in
           let done = batchStored (startOf (a .core .writing)) (batchOf (a .core .writing) latch) m in
-          c .stepped .ensures .0 (ready-agrees (a .core) next code agrees) code size registers key eeprom
+          c .stepped .ensures .0 (ready-agrees (a .core) (next % 0x200) code agrees (omega arith)) code size registers key eeprom
           ∙ ap (writeStepped (ready (next % 0x200))) (batch-stored (a .core) latch agrees size m eeprom _ (omega (arith, next-below (a .core) agrees)) code whole inside (stored .store-batch .ensures .0))
           ∙ ap (λ (x : ℕ). writeStepped (ready x) done) (batch-next (a .core) latch agrees size)
           ∙ end-latches (startOf (a .core .writing)) (batchOf (a .core .writing) latch) m
           (λ none. c .before .before .if1 .left (c .before .before .before .held .ensures ∙ sym (ring-length (a .core .ring) (now (a .slots))) ∙ none)),
       (
         (c .stepped .ensures .1 .0, stored .store-batch .ensures .1),
-        λ code agrees. c .stepped .ensures .1 .1 code (ready-agrees (a .core) next code agrees),
+        λ code agrees. c .stepped .ensures .1 .1 code (ready-agrees (a .core) (next % 0x200) code agrees (omega arith)),
       ),
     )
 

@@ -12,7 +12,8 @@ use Rattle.machine.specs.Commands.{taken}
 use Rattle.machine.specs.Commands.{ended as Commands·ended}
 use Rattle.chip.specs.View.{heldFrom, viewOf}
 use Rattle.chip.proofs.RingLaws.{ring-length}
-use Rattle.commands.proofs.WriteLaws.{programming-agrees, code-writes, step-rests, step-refused, step-latched, start}
+use Rattle.commands.proofs.StepLaws.{too-few}
+use Rattle.commands.proofs.WriteLaws.{programming-agrees, code-writes, step-refused, step-latched, start}
 use Rattle.commands.proofs.write_e2.latched.Statement.{statement}
 use Rattle.commands.proofs.write_e2.latched.Tie as tie
 
@@ -20,13 +21,7 @@ held-requires : tie.Need-held-requires
 held-requires c κs = search needs
 
 returns : tie.Need-returns
-unfolding viewOf
-returns c =
-    let a = c .before .before .args in (
-      λ size code below registers key eeprom.
-          step-rests (a .core .writing .next) (viewOf (a .core) (now (a .slots)) registers (now (a .latch)) key eeprom) (rw (ring-length (a .core .ring) (now (a .slots))) (omega arith)),
-      (refl, λ code agrees. agrees),
-    )
+returns c = (λ size code below registers key eeprom. too-few _ _ _ _ _ _ 1 _ (c .before .held .ensures) _ (c .if1 .taken), (refl, λ code agrees. agrees))
 
 with-access-err-requires : tie.Need-with-access-err-requires
 with-access-err-requires c κs = search needs

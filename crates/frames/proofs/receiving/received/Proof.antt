@@ -18,8 +18,8 @@ sub-control c = search needs
 element-copy-out-control : tie.Need-element-copy-out-control
 element-copy-out-control c = search needs
 
-timer-stopped-requires : tie.Need-timer-stopped-requires
-timer-stopped-requires c κs = search needs
+stopped-if-requires : tie.Need-stopped-if-requires
+stopped-if-requires c κs = search needs
 
 crc-fails-requires : tie.Need-crc-fails-requires
 crc-fails-requires c κs = search needs
@@ -51,7 +51,7 @@ returns c =
     let judged = c .before .before .before .before .before in
     let parity = judged .before .parity-fails in
     let crc = judged .before .before .crc-fails in
-    let stops = judged .before .before .before .timer-stopped in
+    let stops = judged .before .before .before .stopped-if in
     let a = judged .before .before .before .before .before .before .before .args in
     let slots = now (a .slots) in
     let left = offers .last .1 .0 in
@@ -83,7 +83,7 @@ received-spec =
     (tie.spec
     sub-control
     element-copy-out-control
-    timer-stopped-requires
+    stopped-if-requires
     crc-fails-requires
     parity-fails-requires
     with-frame-errors-requires

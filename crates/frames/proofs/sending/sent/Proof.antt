@@ -27,11 +27,11 @@ element-copy-out-control c = search needs
 emptied-requires : tie.Need-emptied-requires
 emptied-requires c κs = search needs
 
-timer-started-requires : tie.Need-timer-started-requires
-timer-started-requires c κs = search needs
+started-if-requires : tie.Need-started-if-requires
+started-if-requires c κs = search needs
 
-timer-started-requires-2 : tie.Need-timer-started-requires-2
-timer-started-requires-2 c κs = search needs
+started-if-requires-2 : tie.Need-started-if-requires-2
+started-if-requires-2 c κs = search needs
 
 raised-tx-requires : tie.Need-raised-tx-requires
 raised-tx-requires c κs = search needs
@@ -43,8 +43,8 @@ returns : tie.Need-returns
 unfolding viewOf sent
 returns c =
     let raises = c .before .raised-tx in
-    let ends = c .before .before .timer-started2 in
-    let begins = c .before .before .before .timer-started in
+    let ends = c .before .before .started-if2 in
+    let begins = c .before .before .before .started-if in
     let empties = c .before .before .before .before .emptied in
     let a = c .before .before .before .before .before .before .args in
     let registers = now (a .registers) in
@@ -73,8 +73,8 @@ sent-spec =
     sub-control
     element-copy-out-control
     emptied-requires
-    timer-started-requires
-    timer-started-requires-2
+    started-if-requires
+    started-if-requires-2
     raised-tx-requires
     after-sending-requires
     returns)

@@ -17,11 +17,11 @@ use Rattle.registers.proofs.control_write.written.Tie as tie
 flushed-requires : tie.Need-flushed-requires
 flushed-requires c κs = search needs
 
-timer-stopped-requires : tie.Need-timer-stopped-requires
-timer-stopped-requires c κs = search needs
+stopped-if-requires : tie.Need-stopped-if-requires
+stopped-if-requires c κs = search needs
 
-timer-started-requires : tie.Need-timer-started-requires
-timer-started-requires c κs = search needs
+started-if-requires : tie.Need-started-if-requires
+started-if-requires c κs = search needs
 
 mul-next : tie.Need-mul-next
 mul-next c = search needs
@@ -42,12 +42,12 @@ returns c =
       λ slots latch key eeprom.
           let before = viewOf (a .core) slots registers latch key eeprom in
           ap (withControl (32 * bit v 5 + 16 * bit v 4))
-          (c .timer-started .ensures .0 slots latch key eeprom
+          (c .started-if .ensures .0 slots latch key eeprom
           ∙ ap (λ (m : Machine). cond (bitSet v 1) (timerStarted m) m)
-          (c .before .timer-stopped .ensures .0 slots registers latch key eeprom
+          (c .before .stopped-if .ensures .0 slots registers latch key eeprom
           ∙ ap (λ (m : Machine). cond (bitSet v 2) (timerStopped m) m)
           (c .before .before .flushed .ensures .0 slots registers latch key eeprom ∙ ap (λ (t : Bool). cond t (flushed before) before) bit-0))),
-      λ agrees. c .timer-started .ensures .1 (c .before .timer-stopped .ensures .1 (c .before .before .flushed .ensures .1 agrees)),
+      λ agrees. c .started-if .ensures .1 (c .before .stopped-if .ensures .1 (c .before .before .flushed .ensures .1 agrees)),
     )
 
 pub written-spec : {M : Type 1} → statement M
@@ -55,8 +55,8 @@ written-spec =
     tie.close
     (tie.spec
     flushed-requires
-    timer-stopped-requires
-    timer-started-requires
+    stopped-if-requires
+    started-if-requires
     mul-next
     mul-next-2
     add-next

@@ -1,8 +1,8 @@
--- `sending::timer_started` meets its contract, by the flag. Assumes nothing.
+-- `clocks::started_if` meets its contract, by the flag. Assumes nothing.
 use borrow.Author.Needs.{needs}
 use mathlib.Core.Path.{refl}
-use Rattle.frames.proofs.sending.timer_started.Statement.{statement}
-use Rattle.frames.proofs.sending.timer_started.Tie as tie
+use Rattle.chip.proofs.clocks.started_if.Statement.{statement}
+use Rattle.chip.proofs.clocks.started_if.Tie as tie
 
 started-requires : tie.Need-started-requires
 started-requires c κs = search needs
@@ -13,5 +13,5 @@ returns c = (λ slots latch key eeprom. rw (c .before .if1 .taken) (c .started .
 returns-2 : tie.Need-returns-2
 returns-2 c = (λ slots latch key eeprom. rw (c .if1 .left) refl, λ agrees. agrees)
 
-pub timer-started-spec : {M : Type 1} → statement M
-timer-started-spec = tie.close (tie.spec started-requires returns returns-2)
+pub started-if-spec : {M : Type 1} → statement M
+started-if-spec = tie.close (tie.spec started-requires returns returns-2)

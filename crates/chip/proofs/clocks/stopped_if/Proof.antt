@@ -1,8 +1,8 @@
--- `receiving::timer_stopped` meets its contract, by the flag. Assumes nothing.
+-- `clocks::stopped_if` meets its contract, by the flag. Assumes nothing.
 use borrow.Author.Needs.{needs}
 use mathlib.Core.Path.{refl}
-use Rattle.frames.proofs.receiving.timer_stopped.Statement.{statement}
-use Rattle.frames.proofs.receiving.timer_stopped.Tie as tie
+use Rattle.chip.proofs.clocks.stopped_if.Statement.{statement}
+use Rattle.chip.proofs.clocks.stopped_if.Tie as tie
 
 stopped-requires : tie.Need-stopped-requires
 stopped-requires c κs = search needs
@@ -13,5 +13,5 @@ returns c = (λ slots registers latch key eeprom. rw (c .before .if1 .taken) (c 
 returns-2 : tie.Need-returns-2
 returns-2 c = (λ slots registers latch key eeprom. rw (c .if1 .left) refl, λ agrees. agrees)
 
-pub timer-stopped-spec : {M : Type 1} → statement M
-timer-stopped-spec = tie.close (tie.spec stopped-requires returns returns-2)
+pub stopped-if-spec : {M : Type 1} → statement M
+stopped-if-spec = tie.close (tie.spec stopped-requires returns returns-2)

@@ -1,0 +1,35 @@
+-- `settle::settled` meets its contract, by one step after another. Assumes nothing.
+use borrow.Author.Needs.{needs}
+use denote.Ref.{now}
+use mathlib.Core.Path.{_∙_}
+use Rattle.chip.specs.View.{viewOf}
+use Rattle.commands.proofs.StepLaws.{steps-twice}
+use Rattle.commands.proofs.settle.settled.Statement.{statement}
+use Rattle.commands.proofs.settle.settled.Tie as tie
+
+stepped-requires : tie.Need-stepped-requires
+stepped-requires c κs = search needs
+
+stepped-requires-2 : tie.Need-stepped-requires-2
+stepped-requires-2 c κs = search needs
+
+returns : tie.Need-returns
+returns c =
+    let a = c .before .before .before .before .before .before .before .before .before .before .args in
+    let once = c .before .before .before .before .before .stepped in
+    let twice = c .stepped2 in
+    let between = once .last .1 in
+    let after = twice .last .1 in
+    let kept = once .ensures .1 .0 in
+    let still = twice .ensures .1 .0 in (
+      λ agrees slots registers latch eeprom.
+          steps-twice (viewOf (a .core) (now (a .slots)) (now (a .registers)) (now (a .latch)) (now (a .key)) (now (a .eeprom)))
+          (viewOf (once .result) (between .0) (between .1 .0) (between .1 .1 .0) (between .1 .1 .1 .0) (now (a .eeprom)))
+          (viewOf (twice .result) (after .0) (after .1 .0) (after .1 .1 .0) (after .1 .1 .1 .0) (now (a .eeprom)))
+          (once .ensures .0 agrees slots registers latch eeprom)
+          (twice .ensures .0 (once .ensures .1 .1 agrees) (kept .0 ∙ slots) (kept .1 ∙ registers) (kept .2 ∙ latch) eeprom),
+      ((still .0 ∙ kept .0, still .1 ∙ kept .1, still .2 ∙ kept .2), λ agrees. twice .ensures .1 .1 (once .ensures .1 .1 agrees)),
+    )
+
+pub settled-spec : {M : Type 1} → statement M
+settled-spec = tie.close (tie.spec stepped-requires stepped-requires-2 returns)

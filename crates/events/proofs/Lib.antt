@@ -1,4 +1,4 @@
+pub mod EventLaws
 pub mod MeetLaws
-pub mod ReadLaws
 pub mod RefusalLaws
 pub mod TypeLaws

@@ -1,13 +1,13 @@
 -- From an event's work on a chip's parts to its promise: a call that is refused, and one that is not.
 -- Assumes nothing.
-use Prim.Native.Nat.{ℕ, suc, _/_, _%_, _<_}
+use Prim.Native.Nat.{ℕ, suc, _/_, _%_, _<_, _≤_}
 use native.Mathlib.Omega.{arith}
 use mathlib.Core.Path.{_≡_, refl, sym, ap, _∙_, subst}
 use mathlib.Core.Bool.{Bool, true, false, cond, not, _&&_, _||_}
 use mathlib.Core.List.{List, [], _∷_}
 use lib.Dec.{ltb, leb, eqb}
 use lib.ListN.{length, drop}
-use borrow.Author.Tests.{ltb-true}
+use borrow.Author.Tests.{ltb-true, lt-ltb, le-ltb}
 use Rattle.bits.specs.Bits.{Bytes}
 use Rattle.machine.specs.State.{Machine}
 use Rattle.machine.specs.WellFormed.{wellFormed, timerFormed, fifoFormed, commandFormed, nothingPends, checksumFormed, bitsFormed}
@@ -22,6 +22,12 @@ use Rattle.machine.proofs.WellFormed.Kept.{well-formedness}
 use Rattle.chip.specs.View.{view, viewOf, fieldsFormed, chipFormed}
 use Rattle.chip.specs.Meets.{coded, chipRefusal, Meets, Whole, Promises}
 use Rattle.chip.specs.declared.Chip.{Chip}
+
+-- A frame does not wait where the chip does not send or holds no byte.
+waits-not : (sends empty : Bool) → (not sends || empty) ≡ not (sends && not empty)
+waits-not true true = refl
+waits-not true false = refl
+waits-not false empty = refl
 
 -- A refused call: the number, and chip and buffer as they were.
 pub refused : (c : Chip) (call : Call) (n : ℕ) → chipRefusal c call ≡ suc n → Promises c call c (suc n) (bufferOf call)
@@ -50,12 +56,6 @@ module _ (c : Chip) (call : Call) (next : Chip) (answer : ℕ) (buffer : List �
         record { slot-count = done .slot-count; latch-count = done .latch-count; sized = here .sized },
       )
 
-  -- A call on a well-formed chip.
-  pub accepted-so : ByteCall call → Formed (view c) → chipRefusal c call ≡ 0 → refusal (view c) call ≡ 0 → Done c call next answer buffer → Meets c call next answer buffer × Whole next
-  accepted-so bytes formed none passed done =
-      accepted-as none done
-      (subst (λ (o : Outcome). Formed (o .next)) (as-accepted (view c) call passed) (well-formedness .kept (view c) call bytes formed))
-
 -- A start judges the image's length alone.
 pub start-refusal : (c : Chip) (image : List ℕ) (t : Bool) → eqb (length image) 512 ≡ t → chipRefusal c (start image) ≡ refuseIf (not t) 2 0
 unfolding chipRefusal refusal
@@ -80,6 +80,17 @@ module _ (c : Chip) (formed : chipFormed c ≡ true) where
 
   pub machine-formed : Whole c → Formed (view c)
   machine-formed whole = record { well = machine-well; sized = whole .sized }
+
+  -- A call that is not refused.
+  pub accepted-here : (call : Call) (next : Chip) (answer : ℕ) (buffer : List ℕ) → ByteCall call → Whole c → (chipRefusal c call ≡ 0) × (refusal (view c) call ≡ 0) →
+      Done c call next answer buffer → Meets c call next answer buffer × Whole next
+  accepted-here call next answer buffer bytes whole (none, passed) done =
+      accepted-as c call next answer buffer none done
+      (subst (λ (o : Outcome). Formed (o .next)) (as-accepted (view c) call passed) (well-formedness .kept (view c) call bytes (machine-formed whole)))
+
+  -- At most 64 bytes are held.
+  pub few-held : length (view c .held) ≤ 64
+  few-held = well-formedness .held-at-most-64 (view c) machine-well
 
   -- "RxLastBits" is below 8.
   pub last-bits-small : c .core .«rx_last_bits» < 8
@@ -117,17 +128,41 @@ module _ (c : Chip) (formed : chipFormed c ≡ true) where
   unfolding chipRefusal refusal
   advance-refusal clocks n e = let m = well-then _ ∙ e in (by-call (advance clocks) n m, m)
 
-  pub take-refusal : (buffer : List ℕ) (n : ℕ) →
-      refuseIf (ltb (length buffer) 66) 6 (refuseIf (not (sending (view c .command)) || eqb (length (view c .held)) 0) 4 0) ≡ n →
-      (chipRefusal c (takeFrame buffer) ≡ n) × (refusal (view c) (takeFrame buffer) ≡ n)
-  unfolding chipRefusal refusal
-  take-refusal buffer n e = let m = well-then _ ∙ e in (by-call (takeFrame buffer) n m, m)
+  -- A take, by the room in the buffer and by whether a frame waits, which is judged of the core.
+  module _ (buffer : List ℕ) where
+    take-refusal : (n : ℕ) → refuseIf (ltb (length buffer) 66) 6 (refuseIf (not (sending (view c .command)) || eqb (length (view c .held)) 0) 4 0) ≡ n →
+        (chipRefusal c (takeFrame buffer) ≡ n) × (refusal (view c) (takeFrame buffer) ≡ n)
+    unfolding chipRefusal refusal
+    take-refusal n e = let m = well-then _ ∙ e in (by-call (takeFrame buffer) n m, m)
 
-  pub deliver-refusal : (bytes parities : List ℕ) (lastBits n : ℕ) →
-      refuseIf (not (frameFormed bytes parities lastBits)) 5 (refuseIf (not (receiving (view c .command))) 4 0) ≡ n →
-      (chipRefusal c (deliver bytes parities lastBits) ≡ n) × (refusal (view c) (deliver bytes parities lastBits) ≡ n)
-  unfolding chipRefusal refusal
-  deliver-refusal bytes parities lastBits n e = let m = well-then _ ∙ e in (by-call (deliver bytes parities lastBits) n m, m)
+    pub take-short : length buffer < 66 → (chipRefusal c (takeFrame buffer) ≡ 6) × (refusal (view c) (takeFrame buffer) ≡ 6)
+    take-short short = take-refusal 6 (ap (λ (t : Bool). refuseIf t 6 (refuseIf (not (sending (view c .command)) || eqb (length (view c .held)) 0) 4 0)) (lt-ltb (length buffer) 66 short))
+
+    pub take-judged : 66 ≤ length buffer → {w : Bool} →
+        ((slots registers latch key eeprom : List ℕ) → let m = viewOf (c .core) slots registers latch key eeprom in w ≡ (sending (m .command) && not (eqb (length (m .held)) 0))) →
+        (t : Bool) → w ≡ t → let n = refuseIf (not t) 4 0 in (chipRefusal c (takeFrame buffer) ≡ n) × (refusal (view c) (takeFrame buffer) ≡ n)
+    take-judged room {w} is t e =
+        take-refusal (refuseIf (not t) 4 0)
+        (ap (λ (b : Bool). refuseIf b 6 (refuseIf (not (sending (view c .command)) || eqb (length (view c .held)) 0) 4 0)) (le-ltb (length buffer) 66 room)
+        ∙ ap (λ (b : Bool). refuseIf b 4 0)
+        (waits-not (sending (view c .command)) (eqb (length (view c .held)) 0) ∙ ap not (sym (is (c .slots) (c .registers) (c .latch) (c .key) (c .eeprom)) ∙ e)))
+
+  -- A delivery, by whether the frame is formed, and whether the chip receives.
+  module _ (bytes parities : List ℕ) (lastBits : ℕ) {f : Bool} (judges : f ≡ frameFormed bytes parities lastBits) where
+    deliver-refusal : (n : ℕ) → refuseIf (not (frameFormed bytes parities lastBits)) 5 (refuseIf (not (receiving (view c .command))) 4 0) ≡ n →
+        (chipRefusal c (deliver bytes parities lastBits) ≡ n) × (refusal (view c) (deliver bytes parities lastBits) ≡ n)
+    unfolding chipRefusal refusal
+    deliver-refusal n e = let m = well-then _ ∙ e in (by-call (deliver bytes parities lastBits) n m, m)
+
+    pub deliver-unformed : f ≡ false → (chipRefusal c (deliver bytes parities lastBits) ≡ 5) × (refusal (view c) (deliver bytes parities lastBits) ≡ 5)
+    deliver-unformed e = deliver-refusal 5 (ap (λ (t : Bool). refuseIf (not t) 5 (refuseIf (not (receiving (view c .command))) 4 0)) (sym judges ∙ e))
+
+    pub deliver-judged : f ≡ true → {r : Bool} → ((slots registers latch key eeprom : List ℕ) → r ≡ receiving (viewOf (c .core) slots registers latch key eeprom .command)) →
+        (t : Bool) → r ≡ t → let n = refuseIf (not t) 4 0 in (chipRefusal c (deliver bytes parities lastBits) ≡ n) × (refusal (view c) (deliver bytes parities lastBits) ≡ n)
+    deliver-judged whole {r} is t e =
+        deliver-refusal (refuseIf (not t) 4 0)
+        (ap (λ (b : Bool). refuseIf (not b) 5 (refuseIf (not (receiving (view c .command))) 4 0)) (sym judges ∙ whole)
+        ∙ ap (λ (b : Bool). refuseIf (not b) 4 0) (sym (is (c .slots) (c .registers) (c .latch) (c .key) (c .eeprom)) ∙ e))
 
 -- A call but a start on a malformed chip.
 abbrev JudgesChip : Call → Type 0

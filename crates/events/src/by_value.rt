@@ -1,7 +1,7 @@
 // The six events by value: the chip is passed in, and handed back with the answer. Each copies the arrays into locals and lends those to
 // the event on the parts.
 ghost use mathlib.Core.List.{[]};
-ghost use Rattle.machine.specs.Refusals.{start as Refusals·start, hostRead};
+ghost use Rattle.machine.specs.Refusals.{start as Refusals·start, hostRead, hostWrite, advance as Refusals·advance, takeFrame, deliver as Refusals·deliver};
 ghost use Rattle.chip.specs.Meets.{Meets};
 use crate::Outcome;
 use crate::parts;
@@ -57,6 +57,141 @@ pub fn host_read(chip: Chip, address: u8) -> Outcome
         &mut key,
         &mut eeprom,
         address,
+    );
+    let core = step.core;
+    let next = Chip {
+        core: core,
+        slots: slots,
+        registers: registers,
+        latch: latch,
+        key: key,
+        eeprom: eeprom,
+    };
+    Outcome {
+        chip: next,
+        answer: step.answer,
+    }
+}
+
+// A host write of a byte to an address.
+pub fn host_write(chip: Chip, address: u8, v: u8) -> Outcome
+    ensures { λ r. ⌜ Meets chip (hostWrite address v) (r .chip) (r .answer) [] ⌝ }
+{
+    let mut slots = chip.slots;
+    let mut registers = chip.registers;
+    let mut latch = chip.latch;
+    let mut key = chip.key;
+    let mut eeprom = chip.eeprom;
+    let step = parts::host_write(
+        chip.core,
+        &mut slots,
+        &mut registers,
+        &mut latch,
+        &mut key,
+        &mut eeprom,
+        address,
+        v,
+    );
+    let core = step.core;
+    let next = Chip {
+        core: core,
+        slots: slots,
+        registers: registers,
+        latch: latch,
+        key: key,
+        eeprom: eeprom,
+    };
+    Outcome {
+        chip: next,
+        answer: step.answer,
+    }
+}
+
+// An advance by clocks.
+pub fn advance(chip: Chip, clocks: u32) -> Outcome
+    ensures { λ r. ⌜ Meets chip (Refusals·advance clocks) (r .chip) (r .answer) [] ⌝ }
+{
+    let mut slots = chip.slots;
+    let mut registers = chip.registers;
+    let mut latch = chip.latch;
+    let mut key = chip.key;
+    let mut eeprom = chip.eeprom;
+    let step = parts::advance(
+        chip.core,
+        &mut slots,
+        &mut registers,
+        &mut latch,
+        &mut key,
+        &mut eeprom,
+        clocks,
+    );
+    let core = step.core;
+    let next = Chip {
+        core: core,
+        slots: slots,
+        registers: registers,
+        latch: latch,
+        key: key,
+        eeprom: eeprom,
+    };
+    Outcome {
+        chip: next,
+        answer: step.answer,
+    }
+}
+
+// A take of the frame that the chip sends, into a buffer.
+pub fn take(chip: Chip, buffer: &mut [u8]) -> Outcome
+    ensures { λ r. ⌜ Meets chip (takeFrame (now (buffer .entry))) (r .chip) (r .answer) (now (buffer .exit)) ⌝ }
+{
+    let mut slots = chip.slots;
+    let mut registers = chip.registers;
+    let mut latch = chip.latch;
+    let mut key = chip.key;
+    let mut eeprom = chip.eeprom;
+    let step = parts::take(
+        chip.core,
+        &mut slots,
+        &mut registers,
+        &mut latch,
+        &mut key,
+        &mut eeprom,
+        buffer,
+    );
+    let core = step.core;
+    let next = Chip {
+        core: core,
+        slots: slots,
+        registers: registers,
+        latch: latch,
+        key: key,
+        eeprom: eeprom,
+    };
+    Outcome {
+        chip: next,
+        answer: step.answer,
+    }
+}
+
+// A delivery of a frame that the chip receives.
+pub fn deliver(chip: Chip, bytes: &[u8], parities: &[u8], last_bits: u8) -> Outcome
+    ensures { λ r. ⌜ Meets chip (Refusals·deliver (now (bytes .entry)) (now (parities .entry)) «last_bits») (r .chip) (r .answer) [] ⌝ }
+{
+    let mut slots = chip.slots;
+    let mut registers = chip.registers;
+    let mut latch = chip.latch;
+    let mut key = chip.key;
+    let mut eeprom = chip.eeprom;
+    let step = parts::deliver(
+        chip.core,
+        &mut slots,
+        &mut registers,
+        &mut latch,
+        &mut key,
+        &mut eeprom,
+        bytes,
+        parities,
+        last_bits,
     );
     let core = step.core;
     let next = Chip {

@@ -10,8 +10,8 @@ use Rattle.machine.specs.Refusals.{hostRead, refuseIf}
 use Rattle.chip.specs.View.{view, viewOf}
 use Rattle.chip.specs.Meets.{assembled}
 use Rattle.chip.specs.declared.Chip.{Chip}
-use Rattle.events.proofs.MeetLaws.{refused, malformed, judged, read-refusal, own-fields-formed, machine-formed, last-bits-small, accepted-so}
-use Rattle.events.proofs.ReadLaws.{read-answer, read-removes, read-leaves}
+use Rattle.events.proofs.MeetLaws.{refused, malformed, judged, read-refusal, own-fields-formed, last-bits-small, accepted-here}
+use Rattle.events.proofs.EventLaws.{read-answer, read-removes, read-leaves}
 use Rattle.events.proofs.parts.host_read.Statement.{statement}
 use Rattle.events.proofs.parts.host_read.Tie as tie
 
@@ -47,7 +47,7 @@ returns c whole =
     let agrees = own-fields-formed old formed in
     let passed = read-refusal old formed (a .address) 0 (ap (λ (t : Bool). refuseIf t 1 0) (le-ltb 63 (a .address) (omega (arith, c .before .before .before .before .before .before .before .if2 .taken)))) in
     let is = c .before .before .before .before .before .before .mapped .ensures in
-    accepted-so old (hostRead (a .address)) next _ [] tt (machine-formed old formed whole) (passed .0) (passed .1)
+    accepted-here old formed (hostRead (a .address)) next _ [] tt whole passed
     (record {
       answered = read-answer (a .address) _ (view old) is _ (c .before .before .before .read .ensures agrees (last-bits-small old formed) (now (a .latch)) (now (a .key)) (now (a .eeprom)));
       turned = c .byte-left .ensures .0 (now (a .slots)) (now (a .latch)) (now (a .key)) (now (a .eeprom)) ∙ read-removes (a .address) _ (view old) is (c .before .before .if3 .taken);
@@ -67,7 +67,7 @@ returns-2 c whole =
     let agrees = own-fields-formed old formed in
     let passed = read-refusal old formed (a .address) 0 (ap (λ (t : Bool). refuseIf t 1 0) (le-ltb 63 (a .address) (omega (arith, c .before .before .before .before .before .if2 .taken)))) in
     let is = c .before .before .before .before .mapped .ensures in
-    accepted-so old (hostRead (a .address)) old _ [] tt (machine-formed old formed whole) (passed .0) (passed .1)
+    accepted-here old formed (hostRead (a .address)) old _ [] tt whole passed
     (record {
       answered = read-answer (a .address) _ (view old) is _ (c .before .read .ensures agrees (last-bits-small old formed) (now (a .latch)) (now (a .key)) (now (a .eeprom)));
       turned = read-leaves (a .address) _ (view old) is (c .if3 .left);

@@ -1,0 +1,16 @@
+-- `by_value::advance` meets its contract: the event on the parts promises it. Assumes nothing.
+use borrow.Author.Needs.{needs}
+use Rattle.events.proofs.TypeLaws.{whole-chip}
+use Rattle.events.proofs.by_value.advance.Statement.{statement}
+use Rattle.events.proofs.by_value.advance.Tie as tie
+
+advance-requires : tie.Need-advance-requires
+advance-requires c κs = search needs
+
+returns : tie.Need-returns
+returns c =
+    let place = c .before .before .before .before .before .before .before .before .before .before .before .before in
+    c .before .advance .ensures (whole-chip (place .args .chip) (place .good .0 .1 .1 .1)) .0
+
+pub advance-spec : {M : Type 1} → statement M
+advance-spec = tie.close (tie.spec advance-requires returns)

@@ -1,0 +1,16 @@
+-- `by_value::deliver` meets its contract: the event on the parts promises it. Assumes nothing.
+use borrow.Author.Needs.{needs}
+use Rattle.events.proofs.TypeLaws.{whole-chip}
+use Rattle.events.proofs.by_value.deliver.Statement.{statement}
+use Rattle.events.proofs.by_value.deliver.Tie as tie
+
+deliver-requires : tie.Need-deliver-requires
+deliver-requires c κs = search needs
+
+returns : tie.Need-returns
+returns c =
+    let place = c .before .before .before .before .before .before .before .before .before .before .before .before .before .before in
+    c .before .deliver .ensures (whole-chip (place .args .chip) (place .good .0 .1 .1 .1)) .0
+
+pub deliver-spec : {M : Type 1} → statement M
+deliver-spec = tie.close (tie.spec deliver-requires returns)

@@ -1,0 +1,16 @@
+-- `by_value::host_write` meets its contract: the event on the parts promises it. Assumes nothing.
+use borrow.Author.Needs.{needs}
+use Rattle.events.proofs.TypeLaws.{whole-chip}
+use Rattle.events.proofs.by_value.host_write.Statement.{statement}
+use Rattle.events.proofs.by_value.host_write.Tie as tie
+
+host-write-requires : tie.Need-host-write-requires
+host-write-requires c κs = search needs
+
+returns : tie.Need-returns
+returns c =
+    let place = c .before .before .before .before .before .before .before .before .before .before .before .before in
+    c .before .host-write .ensures (whole-chip (place .args .chip) (place .good .0 .1 .1 .1)) .0
+
+pub host-write-spec : {M : Type 1} → statement M
+host-write-spec = tie.close (tie.spec host-write-requires returns)

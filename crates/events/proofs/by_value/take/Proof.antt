@@ -1,0 +1,19 @@
+-- `by_value::take` meets its contract: the event on the parts promises it. Assumes nothing.
+use borrow.Author.Needs.{needs}
+use Rattle.events.proofs.TypeLaws.{whole-chip}
+use Rattle.events.proofs.by_value.take.Statement.{statement}
+use Rattle.events.proofs.by_value.take.Tie as tie
+
+take-requires : tie.Need-take-requires
+take-requires c κs = search needs
+
+same-length : tie.Need-same-length
+same-length c = search needs
+
+returns : tie.Need-returns
+returns c =
+    let place = c .before .before .before .before .before .before .before .before .before .before .before .before .before .before .before .before in
+    c .before .before .before .take .ensures (whole-chip (place .args .chip) (place .good .0 .1 .1 .1)) .0
+
+pub take-spec : {M : Type 1} → statement M
+take-spec = tie.close (tie.spec take-requires same-length returns)

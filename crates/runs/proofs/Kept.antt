@@ -1,11 +1,13 @@
 -- Demand 3 over the program, from the events' relation and the theorem over the definition.
 -- Assumes nothing.
 use mathlib.Core.Path.{_≡_, refl, sym, ap, _∙_, subst}
-use mathlib.Core.Bool.{Bool, true, cond, not}
+use mathlib.Core.Bool.{Bool, true, false, cond, not}
 use mathlib.Core.List.{List, [], _∷_, map}
 use Prim.Native.Nat.{ℕ, zero, suc}
+use native.Mathlib.Omega.{arith}
+use lib.Dec.{eqb}
 use lib.ListN.{length}
-use borrow.Author.Tests.{eq-eqb}
+use borrow.Author.Tests.{eq-eqb, eqb-true}
 use Rattle.machine.specs.State.{Machine}
 use Rattle.machine.specs.Refusals.{Call, start, hostRead, hostWrite, advance, takeFrame, deliver, refusal}
 use Rattle.machine.specs.Events.{Outcome, perform, started}
@@ -17,7 +19,7 @@ use Rattle.journal.proofs.Demand.{demand-3}
 use Rattle.chip.specs.View.{view, chipFormed}
 use Rattle.chip.specs.Meets.{coded, chipRefusal, Meets}
 use Rattle.chip.specs.declared.Chip.{Chip}
-use Rattle.runs.specs.Run.{Step, callsOf, Run, end, next, AsDefined, Kept, ProgramDemand3}
+use Rattle.runs.specs.Run.{Step, callsOf, Called, by-start, by-host-read, by-host-write, by-advance, by-take, by-deliver, Run, end, next, AsDefined, Kept, ProgramDemand3}
 
 -- A well-formed chip is refused as its machine is.
 refused-alike : (c : Chip) (call : Call) → chipFormed c ≡ true → chipRefusal c call ≡ refusal (view c) call
@@ -59,6 +61,15 @@ performed {c} {d} {call} {answer} {buffer} meets formed = go (refusal (view c) c
           lent = given .2 ∙ sym (nothing .1);
         }
 
+-- What each function's contract promises is the one relation.
+called-meets : {c d : Chip} {s : Step} → Called c s d → Meets c (s .call) d (s .answer) (s .buffer)
+called-meets (by-start κs image r promise) = promise
+called-meets (by-host-read address r promise) = promise
+called-meets (by-host-write address v r promise) = promise
+called-meets (by-advance clocks r promise) = promise
+called-meets (by-take κs buffer after r promise) = promise
+called-meets (by-deliver κs bytes parities last r promise) = promise
+
 -- After a run.
 record Ran (s : Both) (steps : List Step) (z : Chip) : Type 0 where
   machine : view z ≡ after s (callsOf steps) .machine
@@ -68,8 +79,8 @@ record Ran (s : Both) (steps : List Step) (z : Chip) : Type 0 where
 ran : {c z : Chip} {steps : List Step} → Run c steps z → (s : Both) → view c ≡ s .machine → chipFormed c ≡ true → Ran s steps z
 unfolding after AsDefined
 ran end s same formed = record { machine = same; formed = formed; defined = tt }
-ran (next {s = x} meets rest) s same formed =
-    let p = performed meets formed in
+ran (next {s = x} call rest) s same formed =
+    let p = performed (called-meets call) formed in
     let r = ran rest (called (x .call) s) (p .machine ∙ ap (λ (m : Machine). perform m (x .call) .next) same) (p .formed) in
     record {
       machine = r .machine;
@@ -82,10 +93,23 @@ start-accepted : (c : Chip) (image : List ℕ) → length image ≡ 512 → chip
 unfolding chipRefusal refusal
 start-accepted c image size = ap (λ (t : Bool). cond (not t) 2 0) (eq-eqb (length image) 512 size)
 
-kept : (image : List ℕ) → length image ≡ 512 → (old fresh c : Chip) (buffer : List ℕ) (steps : List Step) → Meets old (start image) fresh 0 buffer → Run fresh steps c → Kept image steps c
+-- A start that answers 0 had a whole image: another length is refused with 2.
+start-refused : (c : Chip) (image : List ℕ) → eqb (length image) 512 ≡ false → chipRefusal c (start image) ≡ 2
+unfolding chipRefusal refusal
+start-refused c image e = ap (λ (t : Bool). cond (not t) 2 0) e
+
+whole-image : (image : List ℕ) {c d : Chip} → Meets c (start image) d 0 [] → length image ≡ 512
+whole-image image {c} meets = go (eqb (length image) 512) refl
+  where
+    go : (t : Bool) → eqb (length image) 512 ≡ t → length image ≡ 512
+    go true e = eqb-true (length image) 512 e
+    go false e = absurd (omega (arith, meets .refuses 1 (start-refused c image e) .0))
+
+kept : (image : List ℕ) (old fresh c : Chip) (steps : List Step) → Called old (record { call = start image; answer = 0; buffer = [] }) fresh → Run fresh steps c → Kept image steps c
 unfolding after
-kept image size old fresh c buffer steps begins runs =
-    let first = begins .accepts (start-accepted old image size) in
+kept image old fresh c steps begins runs =
+    let size = whole-image image (called-meets begins) in
+    let first = called-meets begins .accepts (start-accepted old image size) in
     let r = ran runs (record { machine = started image; journal = empty }) (first .1) (first .3) in
     let same : _≡_ {A = Both} (run image (callsOf steps)) (record { machine = view c; journal = run image (callsOf steps) .journal }) =
     ap (λ (m : Machine). record { machine = m; journal = run image (callsOf steps) .journal }) (sym (r .machine)) in

@@ -1,0 +1,126 @@
+/* The reader bench: an MFRC531 card-reader chip in software.
+ *
+ * The functions are proved: for every chip, argument and buffer each one ends, and its answer, the next chip and every byte lent are those of
+ * the definitions in crates/machine/specs. What is not proved is this header, the C compiler, and that the pointers are good.
+ *
+ * Any bytes are a valid argument, a chip's among them: memory that is no chip's state gets refusal 7 and stays as it is. A null pointer, or
+ * one to less memory than its length says, is the caller's fault, as with memcpy. Memory lent to one call may not overlap.
+ *
+ * x86-64, System V calling convention. Nothing here allocates, blocks, prints or keeps state outside the chip. Two threads may call at the
+ * same time on two chips.
+ */
+#ifndef MFRC531_H
+#define MFRC531_H
+
+#include <stddef.h>
+#include <stdint.h>
+
+#ifdef __cplusplus
+extern "C" {
+#endif
+
+/* ---- What a call answers ------------------------------------------------------------------------------------------------------------- */
+
+/* One number: bits 7-0 the refusal, 0 for none; bits 15-8 the byte read or the number of bytes written; bits 23-16 the last bits of a frame.
+ * Bits 31-24 are 0. A refused call answers its refusal alone, and leaves chip and buffers as they were. */
+typedef uint32_t mfrc531_answer;
+
+enum mfrc531_refusal {
+    MFRC531_NOT_REFUSED = 0,
+    MFRC531_ADDRESS_ABOVE_63 = 1,
+    MFRC531_IMAGE_NOT_512_BYTES = 2,
+    MFRC531_OVER_65535_CLOCKS = 3,
+    MFRC531_NOT_SENDING_OR_RECEIVING = 4,
+    MFRC531_FRAME_MALFORMED = 5,
+    MFRC531_BUFFER_UNDER_66_BYTES = 6,
+    MFRC531_CHIP_MALFORMED = 7,
+    MFRC531_BOTH_PROFILES_FAIL = 8,
+    MFRC531_PROFILE_NOT_32_BYTES = 9,
+    MFRC531_FIXED_BIT_DIFFERS = 10,
+    MFRC531_PRESCALER_ABOVE_21 = 11,
+    MFRC531_RELOAD_0_WITH_START = 12
+};
+
+/* The refusal of an answer; the byte or count; the last bits. */
+static inline uint8_t mfrc531_refusal_of(mfrc531_answer answer) { return (uint8_t)(answer & 0xFF); }
+static inline uint8_t mfrc531_value_of(mfrc531_answer answer) { return (uint8_t)(answer >> 8 & 0xFF); }
+static inline uint8_t mfrc531_last_bits_of(mfrc531_answer answer) { return (uint8_t)(answer >> 16 & 0xFF); }
+
+/* ---- The chip ------------------------------------------------------------------------------------------------------------------------ */
+
+/* A chip's whole state. Begin with mfrc531_start, which takes any memory. Read it freely; what you write into it is judged by the next call. */
+typedef struct {
+    struct { uint8_t read, write; } ring;                               /* FIFO positions: slot = position % 64, held = write - read, wrapped */
+    struct { uint8_t running, value, prescaler; uint32_t phase; } timer; /* TRunning, TimerValue, and what is kept while the timer runs */
+    struct { uint16_t value; uint8_t mode; } checksum;                  /* the CRC register, and ChannelRedundancy as CalcCRC read it */
+    struct { uint8_t addressed; uint16_t next; uint8_t latched; uint32_t left; } writing; /* WriteE2: next address, latched bytes, clocks left */
+    struct { uint8_t enables, requests; } interrupts;                   /* InterruptEn and InterruptRq */
+    uint8_t page, command, sending, receiving, errors, control, rx_last_bits, bit_framing, key_loaded;
+} mfrc531_core;
+
+typedef struct {
+    mfrc531_core core;
+    uint8_t slots[64];     /* of the FIFO */
+    uint8_t registers[32]; /* 10h-2Fh */
+    uint8_t latch[16];     /* the bytes that WriteE2 programs */
+    uint8_t key[6];        /* the key buffer, or zeros */
+    uint8_t eeprom[512];
+} mfrc531_chip;
+
+#if defined(__cplusplus)
+#define MFRC531_ASSERT(test, text) static_assert(test, text)
+#else
+#define MFRC531_ASSERT(test, text) _Static_assert(test, text)
+#endif
+MFRC531_ASSERT(sizeof(mfrc531_core) == 40, "the layout of the core is the library's");
+MFRC531_ASSERT(offsetof(mfrc531_core, timer) == 4 && offsetof(mfrc531_core, checksum) == 12 && offsetof(mfrc531_core, writing) == 16 &&
+                   offsetof(mfrc531_core, interrupts) == 28 && offsetof(mfrc531_core, page) == 30 && offsetof(mfrc531_core, key_loaded) == 38,
+               "the layout of the core is the library's");
+MFRC531_ASSERT(sizeof(mfrc531_chip) == 672 && offsetof(mfrc531_chip, slots) == 40 && offsetof(mfrc531_chip, registers) == 104 &&
+                   offsetof(mfrc531_chip, latch) == 136 && offsetof(mfrc531_chip, key) == 152 && offsetof(mfrc531_chip, eeprom) == 158,
+               "the layout of the chip is the library's");
+
+/* ---- The six events ------------------------------------------------------------------------------------------------------------------ */
+
+/* A start from an EEPROM image. Judges no old chip: any memory becomes a chip.
+ * Refuses: 2 the image is not 512 bytes. */
+mfrc531_answer mfrc531_start(mfrc531_chip *chip, const uint8_t *image, size_t length);
+
+/* A host read. Value: the register's byte. A read of FIFOData (02h) removes it from the FIFO; no other read changes anything.
+ * Refuses: 7 the chip is malformed; 1 the address is above 63. */
+mfrc531_answer mfrc531_read(mfrc531_chip *chip, uint8_t address);
+
+/* A host write of a byte. The active command then does what it can with the bytes that wait.
+ * Refuses: 7 the chip is malformed; 1 the address is above 63. */
+mfrc531_answer mfrc531_write(mfrc531_chip *chip, uint8_t address, uint8_t byte);
+
+/* An advance by clocks of 13.56 MHz, for the timer and the EEPROM programming. n clocks are n times one clock.
+ * Refuses: 7 the chip is malformed; 3 more than 65,535 clocks. */
+mfrc531_answer mfrc531_advance(mfrc531_chip *chip, uint32_t clocks);
+
+/* A take of the frame that the chip sends, into a buffer; later bytes of the buffer stay. Value: the number of bytes written, at most 66. Last
+ * bits: BitFraming (0Fh) bits 2-0.
+ * Refuses: 7 the chip is malformed; 6 the buffer is under 66 bytes; 4 the chip does not send, or holds no byte. */
+mfrc531_answer mfrc531_take(mfrc531_chip *chip, uint8_t *buffer, size_t length);
+
+/* A delivery of a frame that the chip receives: its bytes, a parity value (0 or 1) for each, and how many bits of the last byte count (0: all).
+ * Refuses: 7 the chip is malformed; 5 no or over 64 bytes, another number of parity values, a parity value above 1, or last bits above 7;
+ * 4 the chip does not receive. */
+mfrc531_answer mfrc531_deliver(mfrc531_chip *chip, const uint8_t *bytes, size_t length, const uint8_t *parities, size_t parity_length,
+                               uint8_t last_bits);
+
+/* ---- Profiles ------------------------------------------------------------------------------------------------------------------------ */
+
+/* The check of a start-up profile, 32 bytes for 10h-2Fh. Refusals 10 to 12 name the register in bits 15-8, and 10 the bit in bits 23-16.
+ * Refuses: 9 the profile is not 32 bytes; then, at the lowest register: 10 a fixed bit differs, 11 TPreScaler is above 21, 12 TimerReload is 0
+ * while a TStartTx bit is set. */
+mfrc531_answer mfrc531_check_profile(const uint8_t *profile, size_t length);
+
+/* The choice for a safe start, from two images of 512 bytes. Value: 1 the user's profile (bytes 010h-02Fh) passes, 2 only the rescue's does.
+ * Refuses: 2 an image is not 512 bytes; 8 both profiles fail. */
+mfrc531_answer mfrc531_choose(const uint8_t *user, size_t user_length, const uint8_t *rescue, size_t rescue_length);
+
+#ifdef __cplusplus
+}
+#endif
+#endif

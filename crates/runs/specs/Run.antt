@@ -13,13 +13,13 @@ use Rattle.journal.specs.Demand.{run, Conserved, NextCall}
 use Rattle.chip.specs.View.{view, chipFormed}
 use Rattle.chip.specs.Meets.{coded}
 use Rattle.chip.specs.declared.Chip.{Chip}
-use Rattle.events.specs.declared.Outcome.{Outcome}
-use Rattle.events.proofs.by_value.start.Reads as start-ensures
-use Rattle.events.proofs.by_value.host_read.Reads as host-read-ensures
-use Rattle.events.proofs.by_value.host_write.Reads as host-write-ensures
-use Rattle.events.proofs.by_value.advance.Reads as advance-ensures
-use Rattle.events.proofs.by_value.take.Reads as take-ensures
-use Rattle.events.proofs.by_value.deliver.Reads as deliver-ensures
+use Rattle.by_value.specs.declared.Outcome.{Outcome}
+use Rattle.by_value.proofs.start.Reads as start-ensures
+use Rattle.by_value.proofs.host_read.Reads as host-read-ensures
+use Rattle.by_value.proofs.host_write.Reads as host-write-ensures
+use Rattle.by_value.proofs.advance.Reads as advance-ensures
+use Rattle.by_value.proofs.take.Reads as take-ensures
+use Rattle.by_value.proofs.deliver.Reads as deliver-ensures
 use denote.Ref.{RefT, now}
 use contract.Lifetimes.{Lfts}
 
@@ -32,7 +32,7 @@ pub record Step : Type 0 where
 abbrev pub callsOf : List Step → List Call
 callsOf steps = map (λ (s : Step). s .call) steps
 
--- One call of a function of events/src/by_value.rt, from a chip to the next: the function's own promise, of these arguments and this result.
+-- One call of a function of the crate by_value, from a chip to the next: the function's own promise, of these arguments and this result.
 -- `Post` is generated from its contract: of the lifetimes, the arguments, the result, and the arguments at exit.
 pub data Called : Chip → Step → Chip → Type 0 where
   by-start : (κs : Lfts 1) {c : Chip} (image : RefT (List ℕ)) (r : Outcome) → start-ensures.Post κs (c, (image, tt)) r (c, (image, tt)) → Called c (record { call = start (now image); answer = r .answer; buffer = [] }) (r .chip)

@@ -1,8 +1,8 @@
 -- `by_value::host_read` meets its contract: the event on the parts promises it. Assumes nothing.
 use borrow.Author.Needs.{needs}
 use Rattle.events.proofs.TypeLaws.{whole-chip}
-use Rattle.events.proofs.by_value.host_read.Statement.{statement}
-use Rattle.events.proofs.by_value.host_read.Tie as tie
+use Rattle.by_value.proofs.host_read.Statement.{statement}
+use Rattle.by_value.proofs.host_read.Tie as tie
 
 host-read-requires : tie.Need-host-read-requires
 host-read-requires c κs = search needs

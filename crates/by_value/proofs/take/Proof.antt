@@ -1,8 +1,8 @@
 -- `by_value::take` meets its contract: the event on the parts promises it. Assumes nothing.
 use borrow.Author.Needs.{needs}
 use Rattle.events.proofs.TypeLaws.{whole-chip}
-use Rattle.events.proofs.by_value.take.Statement.{statement}
-use Rattle.events.proofs.by_value.take.Tie as tie
+use Rattle.by_value.proofs.take.Statement.{statement}
+use Rattle.by_value.proofs.take.Tie as tie
 
 take-requires : tie.Need-take-requires
 take-requires c κs = search needs

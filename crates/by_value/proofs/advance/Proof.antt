@@ -1,8 +1,8 @@
 -- `by_value::advance` meets its contract: the event on the parts promises it. Assumes nothing.
 use borrow.Author.Needs.{needs}
 use Rattle.events.proofs.TypeLaws.{whole-chip}
-use Rattle.events.proofs.by_value.advance.Statement.{statement}
-use Rattle.events.proofs.by_value.advance.Tie as tie
+use Rattle.by_value.proofs.advance.Statement.{statement}
+use Rattle.by_value.proofs.advance.Tie as tie
 
 advance-requires : tie.Need-advance-requires
 advance-requires c κs = search needs

@@ -1,8 +1,8 @@
 -- `by_value::deliver` meets its contract: the event on the parts promises it. Assumes nothing.
 use borrow.Author.Needs.{needs}
 use Rattle.events.proofs.TypeLaws.{whole-chip}
-use Rattle.events.proofs.by_value.deliver.Statement.{statement}
-use Rattle.events.proofs.by_value.deliver.Tie as tie
+use Rattle.by_value.proofs.deliver.Statement.{statement}
+use Rattle.by_value.proofs.deliver.Tie as tie
 
 deliver-requires : tie.Need-deliver-requires
 deliver-requires c κs = search needs

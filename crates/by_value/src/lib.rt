@@ -3,9 +3,14 @@
 ghost use mathlib.Core.List.{[]};
 ghost use Rattle.machine.specs.Refusals.{start as Refusals·start, hostRead, hostWrite, advance as Refusals·advance, takeFrame, deliver as Refusals·deliver};
 ghost use Rattle.chip.specs.Meets.{Meets};
-use crate::Outcome;
-use crate::parts;
 use chip::Chip;
+use events::parts;
+
+// What an event by value gives back: the next chip, and the number answered.
+pub struct Outcome {
+    pub chip: Chip,
+    pub answer: u32,
+}
 
 // A start from an EEPROM image.
 pub fn start(chip: Chip, image: &[u8]) -> Outcome

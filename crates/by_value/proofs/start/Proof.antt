@@ -1,8 +1,8 @@
 -- `by_value::start` meets its contract: the event on the parts promises it. Assumes nothing.
 use borrow.Author.Needs.{needs}
 use Rattle.events.proofs.TypeLaws.{whole-chip}
-use Rattle.events.proofs.by_value.start.Statement.{statement}
-use Rattle.events.proofs.by_value.start.Tie as tie
+use Rattle.by_value.proofs.start.Statement.{statement}
+use Rattle.by_value.proofs.start.Tie as tie
 
 start-requires : tie.Need-start-requires
 start-requires c κs = search needs

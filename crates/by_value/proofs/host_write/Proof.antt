@@ -1,8 +1,8 @@
 -- `by_value::host_write` meets its contract: the event on the parts promises it. Assumes nothing.
 use borrow.Author.Needs.{needs}
 use Rattle.events.proofs.TypeLaws.{whole-chip}
-use Rattle.events.proofs.by_value.host_write.Statement.{statement}
-use Rattle.events.proofs.by_value.host_write.Tie as tie
+use Rattle.by_value.proofs.host_write.Statement.{statement}
+use Rattle.by_value.proofs.host_write.Tie as tie
 
 host-write-requires : tie.Need-host-write-requires
 host-write-requires c κs = search needs

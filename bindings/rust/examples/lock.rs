@@ -1,0 +1,77 @@
+//! A first firmware in Rust, step by step what examples/lock.c does: start, interrupts, key, checksum, a Transceive, and refused calls.
+use mfrc531::{check_profile, shipped_image, Chip, Command, Refusal, Register, SHIPPED_PROFILE};
+
+const RX_IRQ: u8 = 0x08;
+const TX_IRQ: u8 = 0x10;
+const IDLE_IRQ: u8 = 0x04;
+
+fn send_bytes(chip: &mut Chip, bytes: &[u8]) -> Result<(), Refusal> {
+    bytes.iter().try_for_each(|&byte| chip.write(Register::FifoData, byte))
+}
+
+/// One line about the chip, as a polling loop sees it.
+fn show(chip: &mut Chip, step: &str) -> Result<(), Refusal> {
+    let status = chip.read(Register::PrimaryStatus)?;
+    let length = chip.read(Register::FifoLength)?;
+    let requests = chip.read(Register::InterruptRq)?;
+    let errors = chip.read(Register::ErrorFlag)?;
+    println!("{step:<34} PrimaryStatus {status:02X}  FIFOLength {length:2}  InterruptRq {requests:02X}  ErrorFlag {errors:02X}");
+    Ok(())
+}
+
+fn hex(bytes: &[u8]) -> String {
+    bytes.iter().map(|byte| format!(" {byte:02X}")).collect()
+}
+
+/// Each nibble of a key complemented, then true, the upper one first.
+fn stored(key: [u8; 6]) -> Vec<u8> {
+    key.iter().flat_map(|byte| [byte >> 4, byte & 0x0F]).map(|nibble| (!nibble & 0x0F) << 4 | nibble).collect()
+}
+
+fn transceive(chip: &mut Chip) -> Result<(), Refusal> {
+    chip.write(Register::InterruptRq, 0x7F)?;
+    chip.write(Register::ChannelRedundancy, 0x0F)?; // odd parity, checksum added when sending and checked when receiving
+    send_bytes(chip, &[0x30, 0x04])?;
+    chip.write(Register::Command, Command::Transceive as u8)?;
+    let mut buffer = [0; 66];
+    let frame = chip.take(&mut buffer)?;
+    println!("frame sent                        {}", hex(&buffer[..frame.length]));
+    chip.deliver(&[0x12, 0x34, 0x26, 0xCF], &[1, 0, 0, 1], 0)?;
+    show(chip, "card's answer delivered")?;
+    let mut received = Vec::new();
+    while chip.read(Register::FifoLength)? > 0 {
+        received.push(chip.read(Register::FifoData)?);
+    }
+    println!("bytes received                    {}", hex(&received));
+    Ok(())
+}
+
+fn main() -> Result<(), Box<dyn std::error::Error>> {
+    check_profile(&SHIPPED_PROFILE)?;
+    let mut chip = Chip::start(&shipped_image())?;
+    chip.write(Register::Page, 0x00)?; // linear addresses
+    show(&mut chip, "started from the shipped image")?;
+
+    chip.write(Register::InterruptEn, 0x7F)?; // clear all enables
+    chip.write(Register::InterruptEn, 0x80 | RX_IRQ | TX_IRQ | IDLE_IRQ)?;
+    chip.write(Register::InterruptRq, 0x7F)?; // clear all requests
+    show(&mut chip, "Rx, Tx and Idle enabled")?;
+
+    chip.write(Register::Command, Command::LoadKey as u8)?;
+    send_bytes(&mut chip, &stored([0xA0, 0xA1, 0xA2, 0xA3, 0xA4, 0xA5]))?;
+    show(&mut chip, "LoadKey, twelve bytes")?;
+
+    chip.write(Register::Command, Command::CalcCrc as u8)?;
+    send_bytes(&mut chip, &[0x12, 0x34])?;
+    let (low, high) = (chip.read(Register::CrcResultLsb)?, chip.read(Register::CrcResultMsb)?);
+    println!("CalcCRC of 12 34                   {low:02X} {high:02X}, expected 26 CF");
+    chip.write(Register::Command, Command::Idle as u8)?;
+
+    transceive(&mut chip)?;
+
+    println!("read at address 64                 {}", chip.read_at(64).unwrap_err());
+    let mut memory = *chip.memory();
+    memory.core.command = 0x3E; // no command of the chip
+    println!("write on a chip with command 3E    {}", Chip::from_memory(memory).write(Register::FifoData, 0x55).unwrap_err());
+    Ok(())
+}

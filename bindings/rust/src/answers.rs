@@ -1,0 +1,94 @@
+//! What calls answer: a value, or a refusal.
+use std::fmt;
+
+/// Why a call was refused. A refused call changes neither the chip nor a buffer.
+#[derive(Clone, Copy, Debug, PartialEq, Eq, Hash)]
+#[repr(u8)]
+pub enum Refusal {
+    /// 1: the host address is above 63.
+    AddressAbove63 = 1,
+    /// 2: the image is not 512 bytes.
+    ImageNot512Bytes = 2,
+    /// 3: more than 65,535 clocks were asked.
+    Over65535Clocks = 3,
+    /// 4: a take while the chip does not send or holds no byte, or a delivery while it does not receive.
+    NotSendingOrReceiving = 4,
+    /// 5: a received frame of 0 or over 64 bytes, another number of parity values, a parity value above 1, or last bits above 7.
+    FrameMalformed = 5,
+    /// 6: the buffer is under 66 bytes.
+    BufferUnder66Bytes = 6,
+    /// 7: the memory is no chip's state.
+    ChipMalformed = 7,
+    /// 8: neither profile passes.
+    BothProfilesFail = 8,
+}
+
+impl Refusal {
+    /// The refusal's number.
+    pub fn number(self) -> u8 {
+        self as u8
+    }
+
+    pub(crate) fn of(number: u8) -> Refusal {
+        match number {
+            1 => Refusal::AddressAbove63,
+            2 => Refusal::ImageNot512Bytes,
+            3 => Refusal::Over65535Clocks,
+            4 => Refusal::NotSendingOrReceiving,
+            5 => Refusal::FrameMalformed,
+            6 => Refusal::BufferUnder66Bytes,
+            7 => Refusal::ChipMalformed,
+            8 => Refusal::BothProfilesFail,
+            other => unreachable!("the library has no refusal {other} here"),
+        }
+    }
+}
+
+impl fmt::Display for Refusal {
+    fn fmt(&self, f: &mut fmt::Formatter<'_>) -> fmt::Result {
+        let why = match self {
+            Refusal::AddressAbove63 => "the host address is above 63",
+            Refusal::ImageNot512Bytes => "the image is not 512 bytes",
+            Refusal::Over65535Clocks => "more than 65,535 clocks were asked",
+            Refusal::NotSendingOrReceiving => "the chip does not send, holds no byte, or does not receive",
+            Refusal::FrameMalformed => "the received frame is malformed",
+            Refusal::BufferUnder66Bytes => "the buffer is under 66 bytes",
+            Refusal::ChipMalformed => "the memory is no chip's state",
+            Refusal::BothProfilesFail => "neither profile passes",
+        };
+        write!(f, "refused ({}): {why}", self.number())
+    }
+}
+
+impl std::error::Error for Refusal {}
+
+/// The frame that a take wrote into the buffer.
+#[derive(Clone, Copy, Debug, PartialEq, Eq)]
+pub struct Frame {
+    /// How many bytes were written, from the front of the buffer.
+    pub length: usize,
+    /// BitFraming bits 2-0: how many bits of the last byte are sent, 0 for all.
+    pub last_bits: u8,
+}
+
+/// The number that the library answers: bits 7-0 the refusal, 0 for none; bits 15-8 the byte or count; bits 23-16 the last bits.
+pub(crate) struct Answer(pub u32);
+
+impl Answer {
+    pub fn done(self) -> Result<(), Refusal> {
+        match (self.0 & 0xFF) as u8 {
+            0 => Ok(()),
+            number => Err(Refusal::of(number)),
+        }
+    }
+
+    pub fn value(self) -> Result<u8, Refusal> {
+        let value = (self.0 >> 8) as u8;
+        self.done().map(|()| value)
+    }
+
+    pub fn frame(self) -> Result<Frame, Refusal> {
+        let last_bits = (self.0 >> 16) as u8;
+        self.value().map(|length| Frame { length: length.into(), last_bits })
+    }
+}

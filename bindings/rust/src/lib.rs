@@ -1,0 +1,150 @@
+//! The reader bench: an MFRC531 card-reader chip in software.
+//!
+//! A [`Chip`] is one chip's whole state. Its methods are the chip's six events; each answers a value or a [`Refusal`], and a refused call
+//! changes neither the chip nor a buffer. The library behind them is proved: for every chip and every argument a call ends, and its answer,
+//! the next chip and every byte lent are those of the definitions in `crates/machine/specs`. This crate only carries arguments and answers.
+//!
+//! ```
+//! use mfrc531::{Chip, Command, Register};
+//!
+//! # fn main() -> Result<(), mfrc531::Refusal> {
+//! let mut chip = Chip::start(&mfrc531::shipped_image())?;
+//! chip.write(Register::Page, 0x00)?; // linear addresses; after a start they go through Page
+//! chip.write(Register::Command, Command::CalcCrc as u8)?;
+//! for byte in [0x12, 0x34] {
+//!     chip.write(Register::FifoData, byte)?;
+//! }
+//! assert_eq!(chip.read(Register::CrcResultLsb)?, 0x26);
+//! assert_eq!(chip.read(Register::CrcResultMsb)?, 0xCF);
+//! # Ok(())
+//! # }
+//! ```
+#![warn(missing_docs)]
+
+mod answers;
+mod names;
+mod profiles;
+
+pub mod memory;
+
+pub use answers::{Frame, Refusal};
+pub use names::{Command, Register};
+pub use profiles::{check_profile, choose, shipped_image, Choice, ProfileRefusal, SHIPPED_PROFILE};
+
+use answers::Answer;
+use memory::ChipMemory;
+
+extern "C" {
+    fn mfrc531_start(chip: *mut ChipMemory, image: *const u8, length: usize) -> u32;
+    fn mfrc531_read(chip: *mut ChipMemory, address: u8) -> u32;
+    fn mfrc531_write(chip: *mut ChipMemory, address: u8, byte: u8) -> u32;
+    fn mfrc531_advance(chip: *mut ChipMemory, clocks: u32) -> u32;
+    fn mfrc531_take(chip: *mut ChipMemory, buffer: *mut u8, length: usize) -> u32;
+    fn mfrc531_deliver(
+        chip: *mut ChipMemory,
+        bytes: *const u8,
+        length: usize,
+        parities: *const u8,
+        parity_length: usize,
+        last_bits: u8,
+    ) -> u32;
+}
+
+/// An MFRC531.
+#[derive(Clone)]
+pub struct Chip {
+    memory: ChipMemory,
+}
+
+impl Chip {
+    /// A chip started from an EEPROM image of 512 bytes; another length is refused with [`Refusal::ImageNot512Bytes`].
+    ///
+    /// ```
+    /// use mfrc531::{Chip, Refusal};
+    /// assert_eq!(Chip::start(&[0; 511]).err(), Some(Refusal::ImageNot512Bytes));
+    /// ```
+    pub fn start(image: &[u8]) -> Result<Chip, Refusal> {
+        let mut chip = Chip { memory: ChipMemory::zeroed() };
+        chip.restart(image).map(|()| chip)
+    }
+
+    /// Starts this chip anew from an image, whatever its state is. A refused start leaves the chip as it was.
+    pub fn restart(&mut self, image: &[u8]) -> Result<(), Refusal> {
+        // Safety: the chip is lent for the call alone, and the image has the length that is passed with it.
+        Answer(unsafe { mfrc531_start(&mut self.memory, image.as_ptr(), image.len()) }).done()
+    }
+
+    /// Reads a register. A read of [`Register::FifoData`] removes the byte from the FIFO; no other read changes anything.
+    ///
+    /// ```
+    /// # use mfrc531::*;
+    /// # let mut chip = Chip::start(&shipped_image()).unwrap();
+    /// assert_eq!(chip.read(Register::FifoLength), Ok(0));
+    /// assert_eq!(chip.read(Register::PrimaryStatus), Ok(0b0101)); // Err, since no key is loaded, and LoAlert
+    /// ```
+    pub fn read(&mut self, register: Register) -> Result<u8, Refusal> {
+        self.read_at(register as u8)
+    }
+
+    /// Reads at an address; 64 and above are refused with [`Refusal::AddressAbove63`].
+    pub fn read_at(&mut self, address: u8) -> Result<u8, Refusal> {
+        // Safety: the chip is lent for the call alone.
+        Answer(unsafe { mfrc531_read(&mut self.memory, address) }).value()
+    }
+
+    /// Writes a register. The active command then does what it can with the bytes that wait.
+    pub fn write(&mut self, register: Register, byte: u8) -> Result<(), Refusal> {
+        self.write_at(register as u8, byte)
+    }
+
+    /// Writes at an address; 64 and above are refused with [`Refusal::AddressAbove63`].
+    pub fn write_at(&mut self, address: u8, byte: u8) -> Result<(), Refusal> {
+        // Safety: the chip is lent for the call alone.
+        Answer(unsafe { mfrc531_write(&mut self.memory, address, byte) }).done()
+    }
+
+    /// Lets so many clocks of 13.56 MHz pass, for the timer and the EEPROM programming; more than 65,535 are refused with
+    /// [`Refusal::Over65535Clocks`].
+    pub fn advance(&mut self, clocks: u32) -> Result<(), Refusal> {
+        // Safety: the chip is lent for the call alone.
+        Answer(unsafe { mfrc531_advance(&mut self.memory, clocks) }).done()
+    }
+
+    /// Takes the frame that the chip sends into a buffer of at least 66 bytes. Later bytes of the buffer stay.
+    ///
+    /// ```
+    /// # use mfrc531::*;
+    /// # let mut chip = Chip::start(&shipped_image()).unwrap();
+    /// chip.write(Register::Page, 0x00)?;
+    /// chip.write(Register::FifoData, 0x26)?;
+    /// chip.write(Register::BitFraming, 0x07)?; // seven bits of the last byte; no checksum is added then
+    /// chip.write(Register::Command, Command::Transceive as u8)?;
+    /// let mut buffer = [0; 66];
+    /// let frame = chip.take(&mut buffer)?;
+    /// assert_eq!((&buffer[..frame.length], frame.last_bits), (&[0x26][..], 7));
+    /// # Ok::<(), Refusal>(())
+    /// ```
+    pub fn take(&mut self, buffer: &mut [u8]) -> Result<Frame, Refusal> {
+        // Safety: the chip and the buffer are lent for the call alone, and the buffer has the length that is passed with it.
+        Answer(unsafe { mfrc531_take(&mut self.memory, buffer.as_mut_ptr(), buffer.len()) }).frame()
+    }
+
+    /// Delivers a frame that the chip receives: its bytes, a parity value (0 or 1) for each, and how many bits of the last byte count (0: all).
+    pub fn deliver(&mut self, bytes: &[u8], parities: &[u8], last_bits: u8) -> Result<(), Refusal> {
+        // Safety: the chip and the slices are lent for the call alone, and each has the length that is passed with it.
+        Answer(unsafe {
+            mfrc531_deliver(&mut self.memory, bytes.as_ptr(), bytes.len(), parities.as_ptr(), parities.len(), last_bits)
+        })
+        .done()
+    }
+
+    /// The chip's state as it lies in memory.
+    pub fn memory(&self) -> &ChipMemory {
+        &self.memory
+    }
+
+    /// A chip of any state. Where it is no chip's state, every call but a start is refused with [`Refusal::ChipMalformed`].
+    pub fn from_memory(memory: ChipMemory) -> Chip {
+        Chip { memory }
+    }
+}

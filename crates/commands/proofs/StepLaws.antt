@@ -2,11 +2,12 @@
 -- Assumes nothing.
 use Prim.Native.Nat.{ℕ, _<_, _≤_}
 use mathlib.Core.Path.{_≡_, refl, sym, ap, _∙_}
-use mathlib.Core.Bool.{Bool, cond}
+use mathlib.Core.Bool.{Bool, true, false, cond, _||_}
 use mathlib.Core.List.{List}
 use lib.Dec.{leb, eqb}
-use borrow.Author.Tests.{ne-eqb, le-leb, lt-leb}
-use Rattle.machine.specs.State.{Machine, Command, Writing}
+use lib.ListN.{length}
+use borrow.Author.Tests.{eqb-true, ne-eqb, le-leb, lt-leb}
+use Rattle.machine.specs.State.{Machine, Command, Writing, Idle, WriteE2, ReadE2, LoadConfig, LoadKeyE2, LoadKey, CalcCRC, Transmit, Receive, TransceiveSending, TransceiveReceiving, addressing, ready, programming}
 use Rattle.machine.specs.Commands.{enough, taken, ended, steppedAs, stepped, settled}
 use Rattle.machine.proofs.WellFormed.Parts.{either}
 use Rattle.chip.specs.declared.Core.{Core}
@@ -43,6 +44,33 @@ module _ (c : Core) (slots registers latch key eeprom : List ℕ) where
 pub steps-twice : (m m′ m″ : Machine) → m′ ≡ stepped m → m″ ≡ stepped m′ → m″ ≡ settled m
 unfolding settled
 steps-twice m m′ m″ once twice = twice ∙ ap stepped once
+
+-- Idle does nothing, and nothing is done with no byte held.
+none-held : (m : Machine) → length (m .held) ≡ 0 → (d : Command) → m ≡ steppedAs d m
+none-held m none Idle = refl
+none-held m none (WriteE2 addressing) = rw none refl
+none-held m none (WriteE2 (ready a)) = rw none refl
+none-held m none (WriteE2 (programming a bs left)) = refl
+none-held m none ReadE2 = rw none refl
+none-held m none LoadConfig = rw none refl
+none-held m none LoadKeyE2 = rw none refl
+none-held m none LoadKey = rw none refl
+none-held m none CalcCRC = rw none refl
+none-held m none Transmit = refl
+none-held m none Receive = refl
+none-held m none TransceiveSending = refl
+none-held m none TransceiveReceiving = refl
+
+pub settled-rests : (c : Core) (slots registers latch key eeprom : List ℕ) (k : ℕ) → k ≡ heldCount (c .ring) → (eqb (c .command) 0x00 || eqb k 0) ≡ true →
+    viewOf c slots registers latch key eeprom ≡ settled (viewOf c slots registers latch key eeprom)
+unfolding stepped viewOf
+settled-rests c slots registers latch key eeprom k count test = let once = go (eqb (c .command) 0x00) refl in steps-twice _ _ _ once once
+  where
+    go : (t : Bool) → eqb (c .command) 0x00 ≡ t → viewOf c slots registers latch key eeprom ≡ stepped (viewOf c slots registers latch key eeprom)
+    go true e = rw (eqb-true (c .command) 0x00 e) refl
+    go false e =
+        let none = ring-length (c .ring) slots ∙ sym count ∙ eqb-true k 0 (ap (λ (t : Bool). t || eqb k 0) (sym e) ∙ test) in
+        none-held (viewOf c slots registers latch key eeprom) none (commandOf (c .command) (c .sending) (writingOf (c .writing) latch))
 
 -- A step that needs n held bytes, of a core that holds k.
 module _ (c : Core) (slots registers latch key eeprom : List ℕ) (n k : ℕ) (count : k ≡ heldCount (c .ring)) where

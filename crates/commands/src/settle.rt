@@ -12,6 +12,7 @@ use crate::steps::load_key_e2;
 use crate::steps::read_e2;
 use crate::write_e2;
 use chip::Core;
+use chip::fifo::held;
 
 // One step, by the code. Idle and the commands that send or receive take no waiting byte here.
 pub fn stepped(
@@ -38,7 +39,8 @@ pub fn stepped(
     }
 }
 
-// All that it does at once: WriteE2 takes its address in one step and latches bytes in the next, every other command needs one step.
+// All that it does at once: WriteE2 takes its address in one step and latches bytes in the next, every other command needs one step. Idle does
+// nothing, and nothing is done with no byte held.
 pub fn settled(
     core: Core,
     slots: &mut [u8; 64],
@@ -51,6 +53,9 @@ pub fn settled(
     ensures whole { λ r. ⌜ ((length (now (slots .exit)) ≡ length (now (slots .entry))) × (length (now (registers .exit)) ≡ length (now (registers .entry))) × (length (now (latch .exit)) ≡ length (now (latch .entry)))) ⌝ }
     ensures keeps { λ r. ⌜ Keeps core r ⌝ }
 {
+    if (core.command == 0x00) | (held(core) == 0) {
+        return core;
+    }
     let next = stepped(core, slots, registers, latch, key, eeprom);
     stepped(next, slots, registers, latch, key, eeprom)
 }

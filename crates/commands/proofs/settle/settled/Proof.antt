@@ -1,11 +1,22 @@
--- `settle::settled` meets its contract, by one step after another. Assumes nothing.
+-- `settle::settled` meets its contract: nothing is to be done, or one step after another. Assumes nothing.
 use borrow.Author.Needs.{needs}
 use denote.Ref.{now}
-use mathlib.Core.Path.{_∙_}
+use mathlib.Core.Path.{refl, _∙_}
 use Rattle.chip.specs.View.{viewOf}
-use Rattle.commands.proofs.StepLaws.{steps-twice}
+use Rattle.commands.proofs.StepLaws.{settled-rests, steps-twice}
 use Rattle.commands.proofs.settle.settled.Statement.{statement}
 use Rattle.commands.proofs.settle.settled.Tie as tie
+
+held-requires : tie.Need-held-requires
+held-requires c κs = search needs
+
+returns : tie.Need-returns
+returns c =
+    let a = c .before .before .before .args in (
+      λ agrees slots registers latch eeprom.
+          settled-rests (a .core) (now (a .slots)) (now (a .registers)) (now (a .latch)) (now (a .key)) (now (a .eeprom)) (c .before .held .result) (c .before .held .ensures) (c .if1 .taken),
+      ((refl, refl, refl), λ agrees. agrees),
+    )
 
 stepped-requires : tie.Need-stepped-requires
 stepped-requires c κs = search needs
@@ -13,9 +24,9 @@ stepped-requires c κs = search needs
 stepped-requires-2 : tie.Need-stepped-requires-2
 stepped-requires-2 c κs = search needs
 
-returns : tie.Need-returns
-returns c =
-    let a = c .before .before .before .before .before .before .before .before .before .before .args in
+returns-2 : tie.Need-returns-2
+returns-2 c =
+    let a = c .before .before .before .before .before .before .before .before .before .before .before .before .before .args in
     let once = c .before .before .before .before .before .stepped in
     let twice = c .stepped2 in
     let between = once .last .1 in
@@ -32,4 +43,5 @@ returns c =
     )
 
 pub settled-spec : {M : Type 1} → statement M
-settled-spec = tie.close (tie.spec stepped-requires stepped-requires-2 returns)
+settled-spec =
+    tie.close (tie.spec held-requires returns stepped-requires stepped-requires-2 returns-2)

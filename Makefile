@@ -1,27 +1,71 @@
 # What people type: `make run` shows the bench at work, `make test` passes every test and ends with the gate's own line.
-.PHONY: help run test check clean
+#
+# What is built for people goes to build/; target/ is the toolchain's own, and rt ci begins by removing it.
+PREFIX ?= /usr/local
+DESTDIR ?=
+CFLAGS ?= -O2 -Wall -Wextra -pedantic -std=c11
+CALLS ?= 1000000
+SOAK_CALLS ?= 50000000
+BUILD := $(abspath build)
+export MFRC531_LIB_DIR := $(BUILD)
+
+.PHONY: help run test check library install bench soak clean
 
 help:
-	@echo 'make run    build profile_check and show it at work on the profiles in profiles/'
-	@echo 'make test   every test; its last line is the verdict of rt ci'
-	@echo 'make check  prove what has changed'
-	@echo 'make clean  remove what was built'
+	@echo 'make run      build the library, proved, and a first firmware on it; show both at work, and the profile check'
+	@echo 'make test     every test; its last line is the verdict of rt ci'
+	@echo 'make library  build/libbench.a, for include/mfrc531.h'
+	@echo 'make install  library, header and pkg-config file under PREFIX (default /usr/local)'
+	@echo 'make bench    the library beside a plain Rust chip, into docs/PERFORMANCE.md'
+	@echo 'make soak     the differential test for SOAK_CALLS calls (default 50,000,000)'
+	@echo 'make check    prove what has changed'
+	@echo 'make clean    remove what was built'
 
-# Proved and linked by the toolchain; rt does nothing where it is up to date.
-target/bin/profile_check: FORCE
-	@mkdir -p target && rt check profile_check > target/build.log 2>&1 || { cat target/build.log; exit 1; }
+# Proved, compiled and linked by the toolchain; rt does nothing where it is up to date.
+$(BUILD)/profile_check: FORCE
+	@mkdir -p $(BUILD)
+	@rt check profile_check > $(BUILD)/profile_check.log 2>&1 || { cat $(BUILD)/profile_check.log; exit 1; }
+	@cmp -s target/bin/profile_check $@ || cp target/bin/profile_check $@
 
-run: target/bin/profile_check
-	@tools/check_profiles target/bin/profile_check profiles/*.hex
+$(BUILD)/libbench.a: FORCE
+	@mkdir -p $(BUILD)
+	@rt staticlib bench > $(BUILD)/library.log 2>&1 || { cat $(BUILD)/library.log; exit 1; }
+	@cmp -s target/staticlib/libbench.a $@ || cp target/staticlib/libbench.a $@
 
-test: target/bin/profile_check
-	tests/profile_check target/bin/profile_check
+library: $(BUILD)/libbench.a
+
+$(BUILD)/lock: examples/lock.c include/mfrc531.h $(BUILD)/libbench.a
+	@$(CC) $(CFLAGS) -Iinclude examples/lock.c $(BUILD)/libbench.a -o $@
+
+run: $(BUILD)/lock $(BUILD)/profile_check
+	@echo 'A first firmware, examples/lock.c, on the proved chip:'
+	@$(BUILD)/lock
+	@echo
+	@echo 'The profile check:'
+	@tools/check_profiles $(BUILD)/profile_check profiles/*.hex
+
+test: $(BUILD)/lock $(BUILD)/profile_check
+	tests/profile_check $(BUILD)/profile_check
+	tests/firmware $(BUILD)
+	tests/differential/run $(CALLS)
 	rt ci
+
+bench: $(BUILD)/libbench.a
+	tests/differential/bench docs/PERFORMANCE.md
+
+soak: $(BUILD)/libbench.a
+	tests/differential/run $(SOAK_CALLS)
+
+install: $(BUILD)/libbench.a
+	install -d $(DESTDIR)$(PREFIX)/lib/pkgconfig $(DESTDIR)$(PREFIX)/include
+	install -m 644 $(BUILD)/libbench.a $(DESTDIR)$(PREFIX)/lib/libmfrc531.a
+	install -m 644 include/mfrc531.h $(DESTDIR)$(PREFIX)/include/mfrc531.h
+	sed 's|@PREFIX@|$(PREFIX)|' mfrc531.pc.in > $(DESTDIR)$(PREFIX)/lib/pkgconfig/mfrc531.pc
 
 check:
 	rt check
 
 clean:
-	rm -rf target
+	rm -rf target build bindings/rust/target tests/differential/target
 
 FORCE:

@@ -57,5 +57,8 @@ pub fn settled(
         return core;
     }
     let next = stepped(core, slots, registers, latch, key, eeprom);
+    if next.command != 0x01 {
+        return next;
+    }
     stepped(next, slots, registers, latch, key, eeprom)
 }

@@ -1,0 +1,28 @@
+-- `bench::mfrc531_write` meets its contract, by the walk that every entry point has (`InPlace.antt`), since `parts::host_write` meets its own. Assumes nothing.
+use mathlib.Core.List.{[], _∷_}
+use mir.Syntax.{w8}
+use prog.Wp
+use contract.Running.{givenOf, tables, tablesOf}
+use denote.Triple.Spec.{tripleOf}
+use denote.Triple.Table.{entered, cited}
+use Rattle.machine.specs.Refusals.{hostWrite}
+use Rattle.chip.specs.Meets.{Meets}
+use Rattle.events.proofs.parts.host_write as g
+use Rattle.events.proofs.parts.host_write.Symbol as event
+use Rattle.events.proofs.parts.host_write.Met as event-thm
+use Rattle.bench.proofs.Beside.{scalar}
+use Rattle.bench.proofs.InPlace.{meets}
+use Rattle.bench.proofs.mfrc531_write.Key as key
+use Rattle.bench.proofs.mfrc531_write as f
+use Rattle.bench.proofs.mfrc531_write.Statement as stated
+use Rattle.bench.proofs.mfrc531_write.Code as code
+
+pub mfrc531-write-spec : {M : Type 1} → stated.statement M
+unfolding code.routine tablesOf
+mfrc531-write-spec 𝓤 H 𝓜 𝓖 𝓡 =
+    entered 𝓤 H (tripleOf 𝓤 H (𝓖 .A) f.signature (f.spec 𝓤 H (𝓖 .A) (𝓜 .mem) (𝓡 .run)))
+    (tables 𝓤 H 𝓜 𝓡 code.env .C) (tables 𝓤 H 𝓜 𝓡 code.env .Λ) key.name code.function (code.unfolded 𝓤 H 𝓜 𝓡)
+    (meets event.name 0 (scalar w8 ∷ scalar w8 ∷ []) 𝓤 H (𝓖 .A) (λ κs h a h′ ws r. Meets h (hostWrite (a .0) (a .1 .0)) h′ r [])
+    (givenOf 𝓤 H 𝓜 𝓖) (tablesOf 𝓤 H 𝓜 (tables 𝓤 H 𝓜 𝓡 code.env))
+    (cited 𝓤 H (tripleOf 𝓤 H (𝓖 .A) g.signature (g.spec 𝓤 H (𝓖 .A) (𝓜 .mem) (𝓡 .run)))
+    𝓜 𝓡 code.env event.name event.routine code.calls-events·parts·host-write (event-thm.met 𝓤 H 𝓜 𝓖 𝓡)))

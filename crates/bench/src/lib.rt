@@ -1,0 +1,169 @@
+// The C interface (include/mfrc531.h): the six events on a chip that the caller lends, the profile check, and the choice for a safe start.
+//
+// An event lends the chip's arrays where they lie to the event on the parts, stores the next core, and answers the event's number.
+ghost use mathlib.Core.Path.{_≡_};
+ghost use mathlib.Core.List.{[]};
+ghost use Rattle.profile.specs.Answer.{refusalAnswer};
+ghost use Rattle.profile.specs.FixedBits.{fixedBits};
+ghost use Rattle.profile.specs.Check.{judged};
+ghost use Rattle.safe_start.specs.Choice.{chosen};
+ghost use Rattle.machine.specs.Refusals.{start, hostRead, hostWrite, advance, takeFrame, deliver};
+ghost use Rattle.chip.specs.Meets.{Meets};
+ghost use Rattle.bench.specs.Numbers.{profileNumber, choiceNumber};
+use chip::Chip;
+use events::parts;
+use profile::Refusal;
+use profile::Verdict;
+use safe_start::Choice;
+
+// A start from an EEPROM image, whatever the chip was.
+#[no_mangle]
+pub extern "C" fn mfrc531_start(chip: &mut Chip, image: &[u8]) -> u32
+    ensures { λ r. ⌜ Meets (now (chip .entry)) (start (now (image .entry))) (now (chip .exit)) r [] ⌝ }
+{
+    let next = parts::start(
+        chip.core,
+        &mut chip.slots,
+        &mut chip.registers,
+        &mut chip.latch,
+        &mut chip.key,
+        &mut chip.eeprom,
+        image,
+    );
+    chip.core = next.core;
+    next.answer
+}
+
+// A host read of an address.
+#[no_mangle]
+pub extern "C" fn mfrc531_read(chip: &mut Chip, address: u8) -> u32
+    ensures { λ r. ⌜ Meets (now (chip .entry)) (hostRead address) (now (chip .exit)) r [] ⌝ }
+{
+    let next = parts::host_read(
+        chip.core,
+        &mut chip.slots,
+        &mut chip.registers,
+        &mut chip.latch,
+        &mut chip.key,
+        &mut chip.eeprom,
+        address,
+    );
+    chip.core = next.core;
+    next.answer
+}
+
+// A host write of a byte to an address.
+#[no_mangle]
+pub extern "C" fn mfrc531_write(chip: &mut Chip, address: u8, v: u8) -> u32
+    ensures { λ r. ⌜ Meets (now (chip .entry)) (hostWrite address v) (now (chip .exit)) r [] ⌝ }
+{
+    let next = parts::host_write(
+        chip.core,
+        &mut chip.slots,
+        &mut chip.registers,
+        &mut chip.latch,
+        &mut chip.key,
+        &mut chip.eeprom,
+        address,
+        v,
+    );
+    chip.core = next.core;
+    next.answer
+}
+
+// An advance by clocks.
+#[no_mangle]
+pub extern "C" fn mfrc531_advance(chip: &mut Chip, clocks: u32) -> u32
+    ensures { λ r. ⌜ Meets (now (chip .entry)) (advance clocks) (now (chip .exit)) r [] ⌝ }
+{
+    let next = parts::advance(
+        chip.core,
+        &mut chip.slots,
+        &mut chip.registers,
+        &mut chip.latch,
+        &mut chip.key,
+        &mut chip.eeprom,
+        clocks,
+    );
+    chip.core = next.core;
+    next.answer
+}
+
+// A take of the frame that the chip sends, into a buffer.
+#[no_mangle]
+pub extern "C" fn mfrc531_take(chip: &mut Chip, buffer: &mut [u8]) -> u32
+    ensures { λ r. ⌜ Meets (now (chip .entry)) (takeFrame (now (buffer .entry))) (now (chip .exit)) r (now (buffer .exit)) ⌝ }
+{
+    let next = parts::take(
+        chip.core,
+        &mut chip.slots,
+        &mut chip.registers,
+        &mut chip.latch,
+        &mut chip.key,
+        &mut chip.eeprom,
+        buffer,
+    );
+    chip.core = next.core;
+    next.answer
+}
+
+// A delivery of a frame that the chip receives.
+#[no_mangle]
+pub extern "C" fn mfrc531_deliver(
+    chip: &mut Chip,
+    bytes: &[u8],
+    parities: &[u8],
+    last_bits: u8,
+) -> u32
+    ensures { λ r. ⌜ Meets (now (chip .entry)) (deliver (now (bytes .entry)) (now (parities .entry)) «last_bits») (now (chip .exit)) r [] ⌝ }
+{
+    let next = parts::deliver(
+        chip.core,
+        &mut chip.slots,
+        &mut chip.registers,
+        &mut chip.latch,
+        &mut chip.key,
+        &mut chip.eeprom,
+        bytes,
+        parities,
+        last_bits,
+    );
+    chip.core = next.core;
+    next.answer
+}
+
+// The number of a refusal by the profile check.
+fn refusal_number(refusal: Refusal) -> u32
+    ensures { λ r. ⌜ r ≡ profileNumber (refusalAnswer refusal) ⌝ }
+{
+    match refusal {
+        Refusal::Length => 9,
+        Refusal::FixedBit { register, bit } => 10 + 0x100 * register as u32 + 0x1_0000 * bit as u32,
+        Refusal::PreScaler { register } => 11 + 0x100 * register as u32,
+        Refusal::Reload { register } => 12 + 0x100 * register as u32,
+    }
+}
+
+// The check of a start-up profile.
+#[no_mangle]
+pub extern "C" fn mfrc531_check_profile(profile: &[u8]) -> u32
+    ensures { λ r. ⌜ r ≡ profileNumber (judged fixedBits (now (profile .entry))) ⌝ }
+{
+    match profile::check(profile) {
+        Verdict::Pass => 0,
+        Verdict::Refused(refusal) => refusal_number(refusal),
+    }
+}
+
+// The choice of profile for a safe start, from two images.
+#[no_mangle]
+pub extern "C" fn mfrc531_choose(user: &[u8], rescue: &[u8]) -> u32
+    ensures { λ r. ⌜ r ≡ choiceNumber (chosen (now (user .entry)) (now (rescue .entry))) ⌝ }
+{
+    match safe_start::choose(user, rescue) {
+        Choice::User => 0x100,
+        Choice::Rescue => 0x200,
+        Choice::ImageLength => 2,
+        Choice::BothFail => 8,
+    }
+}

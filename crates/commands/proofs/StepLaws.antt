@@ -131,6 +131,16 @@ unfolding stepped settled viewOf
 settled-once m c slots registers latch key eeprom other once =
     once ∙ sym (steps-once m (m .command) refl (λ v e. no-write (c .command) (c .sending) (writingOf (c .writing) latch) other v (ap (λ (n : Machine). n .command) once ∙ e)))
 
+-- CalcCRC takes every byte in one step.
+pub settled-sum : (c : Core) (slots registers latch key eeprom : List ℕ) {after : Machine} → c .command ≡ 0x12 → after ≡ steppedAs CalcCRC (viewOf c slots registers latch key eeprom) →
+    after ≡ settled (viewOf c slots registers latch key eeprom)
+unfolding stepped settled viewOf
+settled-sum c slots registers latch key eeprom {after} code does =
+    let m = viewOf c slots registers latch key eeprom in
+    let is : m .command ≡ CalcCRC = rw code refl in
+    let once : after ≡ stepped m = does ∙ ap (λ (d : Command). steppedAs d m) (sym is) in
+    once ∙ ap (λ (d : Command). steppedAs d m) is ∙ sym (all-summed m (enough 1 m) refl is) ∙ ap (λ (d : Command). stepped (steppedAs d m)) (sym is)
+
 -- A step that needs n held bytes, of a core that holds k.
 module _ (c : Core) (slots registers latch key eeprom : List ℕ) (n k : ℕ) (count : k ≡ heldCount (c .ring)) where
   abbrev machine : Machine

@@ -40,7 +40,7 @@ pub fn stepped(
 }
 
 // All that it does at once: WriteE2 takes its address in one step and latches bytes in the next, every other command needs one step. Idle does
-// nothing, and nothing is done with no byte held.
+// nothing, and nothing is done with no byte held; CalcCRC, which takes byte after byte, comes first.
 pub fn settled(
     core: Core,
     slots: &mut [u8; 64],
@@ -55,6 +55,9 @@ pub fn settled(
 {
     if (core.command == 0x00) | (held(core) == 0) {
         return core;
+    }
+    if core.command == 0x12 {
+        return calc_crc(core, slots);
     }
     let next = stepped(core, slots, registers, latch, key, eeprom);
     if next.command != 0x01 {

@@ -3,7 +3,7 @@ use borrow.Author.Needs.{needs}
 use denote.Ref.{now}
 use mathlib.Core.Path.{refl, _∙_}
 use Rattle.chip.specs.View.{viewOf}
-use Rattle.commands.proofs.StepLaws.{settled-rests, settled-once, steps-twice}
+use Rattle.commands.proofs.StepLaws.{settled-rests, settled-sum, settled-once, steps-twice}
 use Rattle.commands.proofs.settle.settled.Statement.{statement}
 use Rattle.commands.proofs.settle.settled.Tie as tie
 
@@ -18,26 +18,39 @@ returns c =
       ((refl, refl, refl), λ agrees. agrees),
     )
 
-stepped-requires : tie.Need-stepped-requires
-stepped-requires c κs = search needs
+calc-crc-requires : tie.Need-calc-crc-requires
+calc-crc-requires c κs = search needs
 
 returns-2 : tie.Need-returns-2
 returns-2 c =
-    let a = c .before .before .before .before .before .before .before .before .before .before .args in
+    let a = c .before .before .before .before .before .before .before .args in
+    let sums = c .calc-crc in (
+      λ agrees slots registers latch eeprom.
+          settled-sum (a .core) (now (a .slots)) (now (a .registers)) (now (a .latch)) (now (a .key)) (now (a .eeprom)) (c .before .before .if2 .taken)
+          (sums .ensures .0 (now (a .registers)) (now (a .latch)) (now (a .key)) (now (a .eeprom))),
+      ((refl, refl, refl), sums .ensures .1),
+    )
+
+stepped-requires : tie.Need-stepped-requires
+stepped-requires c κs = search needs
+
+returns-3 : tie.Need-returns-3
+returns-3 c =
+    let a = c .before .before .before .before .before .before .before .before .before .before .before .before .args in
     let once = c .before .before .stepped in
     let after = once .last .1 in (
       λ agrees slots registers latch eeprom.
           settled-once (viewOf (a .core) (now (a .slots)) (now (a .registers)) (now (a .latch)) (now (a .key)) (now (a .eeprom)))
-          (once .result) (after .0) (after .1 .0) (after .1 .1 .0) (after .1 .1 .1 .0) (now (a .eeprom)) (c .if2 .taken) (once .ensures .0 agrees slots registers latch eeprom),
+          (once .result) (after .0) (after .1 .0) (after .1 .1 .0) (after .1 .1 .1 .0) (now (a .eeprom)) (c .if3 .taken) (once .ensures .0 agrees slots registers latch eeprom),
       (once .ensures .1 .0, once .ensures .1 .1),
     )
 
 stepped-requires-2 : tie.Need-stepped-requires-2
 stepped-requires-2 c κs = search needs
 
-returns-3 : tie.Need-returns-3
-returns-3 c =
-    let a = c .before .before .before .before .before .before .before .before .before .before .before .before .before .before .before .args in
+returns-4 : tie.Need-returns-4
+returns-4 c =
+    let a = c .before .before .before .before .before .before .before .before .before .before .before .before .before .before .before .before .before .args in
     let once = c .before .before .before .before .before .before .before .stepped in
     let twice = c .stepped2 in
     let between = once .last .1 in
@@ -56,4 +69,12 @@ returns-3 c =
 pub settled-spec : {M : Type 1} → statement M
 settled-spec =
     tie.close
-    (tie.spec held-requires returns stepped-requires returns-2 stepped-requires-2 returns-3)
+    (tie.spec
+    held-requires
+    returns
+    calc-crc-requires
+    returns-2
+    stepped-requires
+    returns-3
+    stepped-requires-2
+    returns-4)

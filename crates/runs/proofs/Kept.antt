@@ -19,7 +19,7 @@ use Rattle.journal.proofs.Demand.{demand-3}
 use Rattle.chip.specs.View.{view, chipFormed}
 use Rattle.chip.specs.Meets.{coded, chipRefusal, Meets}
 use Rattle.chip.specs.declared.Chip.{Chip}
-use Rattle.runs.specs.Run.{Step, callsOf, Called, by-start, by-host-read, by-host-write, by-advance, by-take, by-deliver, Run, end, next, AsDefined, Kept, ProgramDemand3}
+use Rattle.runs.specs.Run.{Step, callsOf, Called, in-place, by-start, by-host-read, by-host-write, by-advance, by-take, by-deliver, Run, end, next, AsDefined, Kept, ProgramDemand3}
 
 -- A well-formed chip is refused as its machine is.
 refused-alike : (c : Chip) (call : Call) → chipFormed c ≡ true → chipRefusal c call ≡ refusal (view c) call
@@ -63,6 +63,7 @@ performed {c} {d} {call} {answer} {buffer} meets formed = go (refusal (view c) c
 
 -- What each function's contract promises is the one relation.
 called-meets : {c d : Chip} {s : Step} → Called c s d → Meets c (s .call) d (s .answer) (s .buffer)
+called-meets (in-place promise) = promise
 called-meets (by-start κs image r promise) = promise
 called-meets (by-host-read address r promise) = promise
 called-meets (by-host-write address v r promise) = promise

@@ -1,4 +1,4 @@
--- Demand 3 over the program: a run is a list of calls of the six functions by value, with their answers and buffers, each getting the chip
+-- Demand 3 over the program: a run is a list of calls of the six functions, by value or in place, with their answers and buffers, each getting the chip
 -- that the one before left, each as its function's contract promises. The journal is fed the calls alone.
 -- Assumes nothing.
 use Prim.Native.Nat.{ℕ}
@@ -11,7 +11,7 @@ use Rattle.machine.specs.Events.{perform}
 use Rattle.journal.specs.Journal.{Both, called, after}
 use Rattle.journal.specs.Demand.{run, Conserved, NextCall}
 use Rattle.chip.specs.View.{view, chipFormed}
-use Rattle.chip.specs.Meets.{coded}
+use Rattle.chip.specs.Meets.{coded, Meets}
 use Rattle.chip.specs.declared.Chip.{Chip}
 use Rattle.by_value.specs.declared.Outcome.{Outcome}
 use Rattle.by_value.proofs.start.Reads as start-ensures
@@ -32,9 +32,11 @@ pub record Step : Type 0 where
 abbrev pub callsOf : List Step → List Call
 callsOf steps = map (λ (s : Step). s .call) steps
 
--- One call of a function of the crate by_value, from a chip to the next: the function's own promise, of these arguments and this result.
--- `Post` is generated from its contract: of the lifetimes, the arguments, the result, and the arguments at exit.
+-- One call, from a chip to the next, in either form. By value: the promise of the function of the crate by_value, of these arguments and this
+-- result; `Post` is generated from its contract, of the lifetimes, the arguments, the result, and the arguments at exit. In place: the
+-- contract of every entry point of the crate bench is `Meets` of the chip lent, at entry and at exit.
 pub data Called : Chip → Step → Chip → Type 0 where
+  in-place : {c d : Chip} {s : Step} → Meets c (s .call) d (s .answer) (s .buffer) → Called c s d
   by-start : (κs : Lfts 1) {c : Chip} (image : RefT (List ℕ)) (r : Outcome) → start-ensures.Post κs (c, (image, tt)) r (c, (image, tt)) → Called c (record { call = start (now image); answer = r .answer; buffer = [] }) (r .chip)
   by-host-read : {c : Chip} (address : ℕ) (r : Outcome) → host-read-ensures.Post tt (c, (address, tt)) r (c, (address, tt)) → Called c (record { call = hostRead address; answer = r .answer; buffer = [] }) (r .chip)
   by-host-write : {c : Chip} (address v : ℕ) (r : Outcome) → host-write-ensures.Post tt (c, (address, (v, tt))) r (c, (address, (v, tt))) → Called c (record { call = hostWrite address v; answer = r .answer; buffer = [] }) (r .chip)

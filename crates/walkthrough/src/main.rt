@@ -1,10 +1,10 @@
 // A walk through the chip: each of its commands, error flags and refusals, as a table with a line for each step.
 mod image;
-mod steps;
-mod table;
 
 use blank_chip::blank_chip;
 use chip::Chip;
+use register_table::steps;
+use register_table::table;
 
 // Starts: only an image of 512 bytes is taken.
 fn starts(image: &[u8; 512]) -> Chip {

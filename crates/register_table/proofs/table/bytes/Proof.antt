@@ -2,8 +2,8 @@
 use borrow.Author.Needs.{needs}
 use Prim.Native.Nat.{_-_}
 use lib.ListN.{length}
-use Rattle.walkthrough.proofs.table.bytes.Statement.{statement}
-use Rattle.walkthrough.proofs.table.bytes.Tie as tie
+use Rattle.register_table.proofs.table.bytes.Statement.{statement}
+use Rattle.register_table.proofs.table.bytes.Tie as tie
 
 abbrev Inv-loop : tie.InvT-loop
 Inv-loop words values i₀ t4 i = Unit {0}

@@ -2,8 +2,8 @@
 use borrow.Author.Needs.{needs}
 use Prim.Native.Nat.{_-_}
 use lib.ListN.{length}
-use Rattle.walkthrough.proofs.steps.fed.Statement.{statement}
-use Rattle.walkthrough.proofs.steps.fed.Tie as tie
+use Rattle.register_table.proofs.steps.fed.Statement.{statement}
+use Rattle.register_table.proofs.steps.fed.Tie as tie
 
 abbrev Inv-loop : tie.InvT-loop
 Inv-loop bytes chip₀ answer₀ i₀ chip answer i = Unit {0}

@@ -1,8 +1,8 @@
 -- `table::registers` is safe and ends: its index goes up to 9. Assumes nothing.
 use borrow.Author.Needs.{needs}
 use Prim.Native.Nat.{_-_}
-use Rattle.walkthrough.proofs.table.registers.Statement.{statement}
-use Rattle.walkthrough.proofs.table.registers.Tie as tie
+use Rattle.register_table.proofs.table.registers.Statement.{statement}
+use Rattle.register_table.proofs.table.registers.Tie as tie
 
 abbrev Inv-loop : tie.InvT-loop
 Inv-loop chip addresses i₀ i = Unit {0}

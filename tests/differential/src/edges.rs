@@ -1,0 +1,97 @@
+//! Directed calls at the edges of the C interface, with the answers that document 01 wants.
+//!
+//! Lengths of 2^32 and more, which a library that keeps a length in fewer bits would take for small ones: the memory is there, as pages that
+//! nothing has touched. And arguments of fewer than 64 bits whose registers hold something above bit 31, as a C caller may leave it.
+
+use crate::call::first_memory;
+use crate::library;
+use std::alloc::{alloc_zeroed, dealloc, Layout};
+
+const FOUR_GIB: usize = 1 << 32;
+
+pub fn lengths() -> Result<(), String> {
+    let Ok(layout) = Layout::from_size_align(FOUR_GIB + 4096, 1) else { return Ok(()) };
+    // SAFETY: the layout is not empty; the pointer is checked, stays within the allocation, and is freed once.
+    unsafe {
+        let memory = alloc_zeroed(layout);
+        if memory.is_null() {
+            println!("(no 4 GiB of address space: the calls with such lengths are left out)");
+            return Ok(());
+        }
+        let result = calls(memory);
+        dealloc(memory, layout);
+        result
+    }
+}
+
+unsafe fn calls(memory: *mut u8) -> Result<(), String> {
+    let mut chip = first_memory(531);
+    let before = chip;
+    let chip_at = chip.as_mut_ptr();
+    let expect = |what: &str, answer: u32, wanted: u32| {
+        if answer == wanted {
+            Ok(())
+        } else {
+            Err(format!("{what}: answered {answer:08X}h, document 01 wants {wanted:08X}h"))
+        }
+    };
+    expect("start with an image of 2^32 + 512 bytes", library::mfrc531_start(chip_at, memory, FOUR_GIB + 512), 2)?;
+    if chip != before {
+        return Err("a refused start has changed the chip".to_string());
+    }
+    let chip_at = chip.as_mut_ptr();
+    expect("start", library::mfrc531_start(chip_at, memory, 512), 0)?;
+    expect("write Receive", library::mfrc531_write(chip_at, 0x01, 0x16), 0)?;
+    let parities = memory.add(2048);
+    expect("check of 2^32 + 32 bytes", library::mfrc531_check_profile(memory, FOUR_GIB + 32), 9)?;
+    expect("choice with 2^32 + 512 bytes", library::mfrc531_choose(memory, 512, memory, FOUR_GIB + 512), 2)?;
+    expect("choice with 2^32 + 512 bytes", library::mfrc531_choose(memory, FOUR_GIB + 512, memory, 512), 2)?;
+    let deliver = |length, parity_length| library::mfrc531_deliver(chip_at, memory, length, parities, parity_length, 0);
+    expect("deliver 2^32 + 1 bytes", deliver(FOUR_GIB + 1, 1), 5)?;
+    expect("deliver 1 byte with 2^32 + 1 parities", deliver(1, FOUR_GIB + 1), 5)?;
+    expect("deliver 2^32 + 1 of each", deliver(FOUR_GIB + 1, FOUR_GIB + 1), 5)?;
+    expect("deliver 1 byte", deliver(1, 1), 0)?;
+    expect("write Transmit", library::mfrc531_write(chip_at, 0x01, 0x1A), 0)?;
+    expect("take into 2^32 + 10 bytes", library::mfrc531_take(chip_at, memory, FOUR_GIB + 10), 0x100)
+}
+
+/// The same functions, seen with 64-bit arguments, so that the upper halves of the registers can be chosen.
+#[cfg(not(feature = "stub"))]
+pub fn upper_halves() -> Result<(), String> {
+    use crate::chip_memory::ChipMemory;
+    use std::mem::transmute;
+    type Chip = *mut ChipMemory;
+    const UPPER: u64 = 0xDEAD_BEEF_0000_0000;
+    // SAFETY: by the System V calling convention each integer argument has its register, of which an argument of up to 32 bits is the lower
+    // half. The chip is whole and the frame's bytes are there.
+    unsafe {
+        let read: unsafe extern "C" fn(Chip, u64) -> u32 = transmute(library::mfrc531_read as *const ());
+        let write: unsafe extern "C" fn(Chip, u64, u64) -> u32 = transmute(library::mfrc531_write as *const ());
+        let advance: unsafe extern "C" fn(Chip, u64) -> u32 = transmute(library::mfrc531_advance as *const ());
+        let deliver: unsafe extern "C" fn(Chip, *const u8, usize, *const u8, usize, u64) -> u32 =
+            transmute(library::mfrc531_deliver as *const ());
+        let mut chip = first_memory(532);
+        let chip = chip.as_mut_ptr();
+        let answers = [
+            ("start", library::mfrc531_start(chip, [0x5A; 512].as_ptr(), 512), 0),
+            ("write 02h", write(chip, UPPER | 0x02, UPPER | 0xA5), 0),
+            ("read 02h", read(chip, UPPER | 0x02), 0xA500),
+            ("read 40h", read(chip, UPPER | 0x40), 1),
+            ("advance 65,535", advance(chip, UPPER | 65_535), 0),
+            ("advance 65,536", advance(chip, UPPER | 65_536), 3),
+            ("write Receive", write(chip, UPPER | 0x01, UPPER | 0x16), 0),
+            ("deliver with 8 last bits", deliver(chip, [1].as_ptr(), 1, [0].as_ptr(), 1, UPPER | 8), 5),
+            ("deliver with 7 last bits", deliver(chip, [1].as_ptr(), 1, [0].as_ptr(), 1, UPPER | 7), 0),
+            ("read 05h", read(chip, UPPER | 0x05), 0x6700),
+        ];
+        match answers.iter().find(|(_, answer, wanted)| answer != wanted) {
+            Some((what, answer, wanted)) => Err(format!("{what}: answered {answer:08X}h, document 01 wants {wanted:08X}h")),
+            None => Ok(()),
+        }
+    }
+}
+
+#[cfg(feature = "stub")]
+pub fn upper_halves() -> Result<(), String> {
+    Ok(())
+}

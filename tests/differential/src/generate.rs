@@ -1,0 +1,630 @@
+//! Call lists that get somewhere. The generator looks at the plain chip as it stands, makes small plans (a command with its arguments, a frame
+//! with its CRC, a programming to its last clock ...), and strays from them now and then.
+
+use crate::call::{lively, Call, Fill, Image};
+use crate::chip_memory::{Memory, FIELDS, SIZE};
+use crate::plain::{stored_nibble, Checksum, Command, FaultyChip, Writing, PROGRAMMING_CLOCKS};
+use crate::random::Random;
+use std::collections::VecDeque;
+
+/// A part of a plan. It becomes a call when its turn comes, by the chip of that moment.
+enum Step {
+    /// A write to a register, whatever Page says.
+    Set(u8, u8),
+    /// A read of a register, whatever Page says.
+    Get(u8),
+    /// Clocks up to the end of the programming, and so many more.
+    ProgrammingEnd(i64),
+    /// Clocks up to the timer's next end, and so many more.
+    TimerEnd(i64),
+    /// A delivery that fits the settings, or nearly.
+    Deliver,
+    Call(Call),
+}
+
+pub struct Generator {
+    random: Random,
+    plan: VecDeque<Step>,
+    /// Calls until a corruption is mended; 0: none is to be.
+    mend_in: u64,
+}
+
+const COMMANDS: [u8; 10] = [0x00, 0x01, 0x03, 0x07, 0x0B, 0x12, 0x16, 0x19, 0x1A, 0x1E];
+const SETTINGS: [u8; 8] = [0x0F, 0x22, 0x23, 0x24, 0x29, 0x2A, 0x2B, 0x2C];
+const EDGES: [u16; 28] = [
+    0x000, 0x001, 0x00F, 0x010, 0x011, 0x01F, 0x020, 0x05F, 0x060, 0x061, 0x070, 0x07E, 0x07F, 0x080, 0x081, 0x0F8, 0x100, 0x16C, 0x16F,
+    0x170, 0x1E8, 0x1F0, 0x1F3, 0x1F4, 0x1F5, 0x1F8, 0x1FE, 0x1FF,
+];
+
+impl Generator {
+    pub fn new(random: Random) -> Self {
+        Generator { random, plan: VecDeque::new(), mend_in: 0 }
+    }
+
+    /// The next call, by the plain chip; none is for a malformed memory.
+    pub fn next<const FAULT: u8>(&mut self, plain: Option<&FaultyChip<FAULT>>, memory: &Memory) -> Call {
+        if self.mend_in > 0 {
+            self.mend_in -= 1;
+            if self.mend_in == 0 {
+                return if self.random.one_in(10) { self.start() } else { Call::Mend };
+            }
+        }
+        let Some(chip) = plain else {
+            return if self.mend_in == 0 && self.random.one_in(3) { self.start() } else { self.stray() };
+        };
+        if self.random.one_in(14) {
+            return self.stray();
+        }
+        loop {
+            match self.plan.pop_front() {
+                Some(step) => {
+                    if let Some(call) = self.turn(step, chip) {
+                        return call;
+                    }
+                }
+                None if chip.command != Command::Idle && self.random.one_in(3) => self.go_on(chip),
+                None => {
+                    if let Some(call) = self.make_plan(memory) {
+                        return call;
+                    }
+                }
+            }
+        }
+    }
+
+    /// A step as a call of this moment; it may put itself off and another before it.
+    fn turn<const FAULT: u8>(&mut self, step: Step, chip: &FaultyChip<FAULT>) -> Option<Call> {
+        let random = &mut self.random;
+        match step {
+            Step::Call(call) => Some(call),
+            Step::Set(register, _) | Step::Get(register) => {
+                let paging = chip.page & 0x80 != 0;
+                let address = match (register % 8, paging) {
+                    (0, _) => random.byte() & 0x38,
+                    (low, true) if chip.page & 7 == register >> 3 => random.byte() & 0x38 | low,
+                    (_, false) => register,
+                    _ => {
+                        // Another page first, or no paging.
+                        let junk = random.byte() & random.of(&[0, 0, 0x78]);
+                        let page = if random.one_in(5) { 0x80 | register >> 3 } else { random.byte() & 7 };
+                        let call = Call::Write { address: random.byte() & 0x38, byte: page | junk };
+                        self.plan.push_front(step);
+                        return Some(call);
+                    }
+                };
+                Some(match step {
+                    Step::Set(_, byte) => Call::Write { address, byte },
+                    _ => Call::Read { address },
+                })
+            }
+            Step::ProgrammingEnd(more) => {
+                let left = match chip.command {
+                    Command::WriteE2(Writing::Programming { left, .. }) => i64::from(left),
+                    _ => return random.one_in(4).then(|| Call::Advance { clocks: random.below(40) as u32 }),
+                };
+                Some(self.clocks(left + more, Step::ProgrammingEnd(more)))
+            }
+            Step::TimerEnd(more) => {
+                let run = chip.timer.run?;
+                let left = (i64::from(chip.timer.value) << run.prescaler) - i64::from(run.phase);
+                if left > 1_000_000 {
+                    return Some(Call::Advance { clocks: random.of(&[65_535, 65_534, 32_768]) });
+                }
+                Some(self.clocks(left + more, Step::TimerEnd(more)))
+            }
+            Step::Deliver => Some(self.frame(chip)),
+        }
+    }
+
+    /// So many clocks, or a first part of them with the step again behind it.
+    fn clocks(&mut self, clocks: i64, again: Step) -> Call {
+        let clocks = clocks.max(0);
+        if clocks <= 65_535 {
+            return Call::Advance { clocks: clocks as u32 };
+        }
+        self.plan.push_front(again);
+        let part = self.random.of(&[65_535, 65_535, 40_000, clocks - 65_535]);
+        Call::Advance { clocks: part as u32 }
+    }
+
+    /// A call out of line.
+    fn stray(&mut self) -> Call {
+        let random = &mut self.random;
+        match random.below(16) {
+            0..=3 => Call::Read { address: random.byte() & 0x3F },
+            4..=7 => Call::Write { address: random.byte() & 0x3F, byte: random.byte() },
+            8 => Call::Read { address: random.of(&[63, 64, 65, 127, 128, 255, 0x42]) },
+            9 => Call::Write { address: random.of(&[63, 64, 65, 127, 128, 255, 0x42]), byte: random.byte() },
+            10 => Call::Advance { clocks: random.of(&[0, 1, 2, 65_535, 65_536, 65_537, 131_072, 1 << 24, u32::MAX]) },
+            11 => Call::Advance { clocks: random.below(66_000) as u32 },
+            12 | 13 => self.take(),
+            14 => {
+                let length = random.of(&[0, 1, 2, 3, 64, 65, 66, 128, 256, 257, 320]);
+                let parity_length = if random.one_in(3) { random.of(&[0, 1, length + 1, length + 256, 64]) } else { length };
+                let bytes = random.bytes(length);
+                let mut parities: Vec<u8> = (0..parity_length).map(|_| random.byte() & 1).collect();
+                if random.one_in(3) && !parities.is_empty() {
+                    let place = random.below(parities.len() as u64) as usize;
+                    parities[place] = random.of(&[1, 2, 3, 128, 255]);
+                }
+                Call::Deliver { bytes, parities, last_bits: random.of(&[0, 0, 1, 7, 8, 9, 255]) }
+            }
+            _ => {
+                let length = random.of(&[0, 1, 32, 511, 513, 544, 1024]);
+                Call::Start { image: Image { fill: Fill::Noise, seed: random.number() & 0xFFFF_FFFF, length } }
+            }
+        }
+    }
+
+    fn start(&mut self) -> Call {
+        let random = &mut self.random;
+        let fill = random.of(&[Fill::Noise, Fill::Shipped, Fill::Keys, Fill::Keys, Fill::Keys]);
+        let length = if random.one_in(8) { random.of(&[511, 513]) } else { 512 };
+        Call::Start { image: Image { fill, seed: random.number() & 0xFFFF_FFFF, length } }
+    }
+
+    fn take(&mut self) -> Call {
+        let random = &mut self.random;
+        let length = match random.below(40) {
+            0 => random.of(&[0, 1, 64, 255, 256, 300]),
+            1 => random.of(&[65_536, 65_536 + 65]),
+            2..=5 => 65,
+            6..=15 => 67,
+            16..=20 => 100,
+            _ => 66,
+        };
+        Call::Take { length, fill: random.byte() }
+    }
+
+    fn set(&mut self, register: u8, byte: u8) {
+        self.plan.push_back(Step::Set(register, byte));
+    }
+
+    fn call(&mut self, call: Call) {
+        self.plan.push_back(Step::Call(call));
+    }
+
+    /// A change of one setting that the chip looks at.
+    fn setting(&mut self) {
+        let register = self.random.of(&SETTINGS);
+        let byte = lively(register, &mut self.random);
+        self.set(register, byte);
+    }
+
+    fn address(&mut self) -> u16 {
+        let address = match self.random.below(10) {
+            0..=6 => self.random.of(&EDGES),
+            7 => (self.random.of(&EDGES) + self.random.below(16) as u16) % 0x200,
+            _ => self.random.below(0x200) as u16,
+        };
+        // Above 1FFh it is the same.
+        if self.random.one_in(6) {
+            address | (u16::from(self.random.byte()) << 9)
+        } else {
+            address
+        }
+    }
+
+    /// A command with bytes for it: before it, after it, or some before and some after.
+    fn command(&mut self, code: u8, bytes: &[u8]) {
+        if !self.random.one_in(5) {
+            // Nothing left over: Idle, and a flush.
+            self.set(0x01, 0x00);
+            let control = self.random.of(&[0x01, 0x01, 0x01, 0x31]);
+            self.set(0x09, control);
+        }
+        if self.random.one_in(3) {
+            // Requests cleared, so that new ones are seen.
+            self.set(0x07, 0x3F);
+        }
+        let code = code | self.random.of(&[0, 0, 0, 0x40, 0x80, 0xC0]);
+        let before = match self.random.below(3) {
+            0 => bytes.len(),
+            1 => 0,
+            _ => self.random.below(bytes.len() as u64 + 1) as usize,
+        };
+        bytes[..before].iter().for_each(|&byte| self.set(0x02, byte));
+        self.set(0x01, code);
+        bytes[before..].iter().for_each(|&byte| self.set(0x02, byte));
+    }
+
+    fn data(&mut self, most: u64) -> Vec<u8> {
+        let count = match self.random.below(20) {
+            0 => self.random.of(&[1, 2, 3, 15, 16, 17, 32, 33, 62, 63, 64, 65, 66, 70]).min(most),
+            1 => 1 + self.random.below(most),
+            2..=5 => 1 + self.random.below(most.min(20)),
+            _ => 1 + self.random.below(4),
+        };
+        let mut bytes = self.random.bytes(count as usize);
+        if self.random.one_in(6) {
+            bytes.fill(0);
+        }
+        bytes
+    }
+
+    /// Twelve bytes in the format of a key, or nearly.
+    fn stored_key(&mut self) -> Vec<u8> {
+        let mut stored: Vec<u8> = (0..12).map(|_| stored_nibble(self.random.byte())).collect();
+        if self.random.one_in(3) {
+            let place = self.random.below(12) as usize;
+            stored[place] ^= 1 << self.random.below(8);
+        }
+        stored
+    }
+
+    /// A new plan, or a call right away.
+    fn make_plan(&mut self, memory: &Memory) -> Option<Call> {
+        match self.random.below(100) {
+            0..=9 => {
+                for _ in 0..=self.random.below(4) {
+                    self.setting();
+                }
+            }
+            10..=13 => {
+                let data = self.data(70);
+                if self.random.one_in(2) {
+                    self.set(0x01, 0x00);
+                }
+                data.iter().for_each(|&byte| self.set(0x02, byte));
+                if self.random.one_in(2) {
+                    let gets = self.random.below(data.len() as u64 + 2);
+                    (0..gets).for_each(|_| self.plan.push_back(Step::Get(0x02)));
+                }
+            }
+            14..=20 => {
+                let address = self.address();
+                let room = 0x80i32 - i32::from(address % 0x200);
+                let count = match self.random.below(6) {
+                    0 => self.random.of(&[0, 0, 1, 2, 63, 64, 65, 128, 129, 255]),
+                    1 => self.random.byte(),
+                    2 => (room + 1).clamp(0, 255) as u8,
+                    _ => (room - self.random.below(8) as i32).clamp(1, 70) as u8,
+                };
+                let [low, high] = address.to_le_bytes();
+                let mut bytes = vec![low, high, count];
+                if self.random.one_in(5) {
+                    bytes.extend(self.data(64));
+                }
+                self.command(0x03, &bytes);
+            }
+            21..=24 => {
+                let [low, high] = self.address().to_le_bytes();
+                self.command(0x07, &[low, high]);
+            }
+            25..=29 => {
+                let [low, high] = self.address().to_le_bytes();
+                self.command(0x0B, &[low, high]);
+            }
+            30..=35 => {
+                let mut key = self.stored_key();
+                if self.random.one_in(5) {
+                    key.push(self.random.byte());
+                }
+                self.command(0x19, &key);
+            }
+            36..=47 => self.plan_write(),
+            48..=55 => {
+                (0..self.random.below(3)).for_each(|_| self.setting());
+                let data = self.data(20);
+                self.command(0x12, &data);
+                self.plan.extend([Step::Get(0x0D), Step::Get(0x0E)]);
+                if self.random.one_in(3) {
+                    self.setting();
+                    let byte = self.random.byte();
+                    self.set(0x02, byte);
+                    self.plan.push_back(Step::Get(0x0D));
+                }
+            }
+            56..=67 => {
+                (0..self.random.below(4)).for_each(|_| self.setting());
+                let data = self.data(66);
+                let code = self.random.of(&[0x1A, 0x1E, 0x1E]);
+                self.command(code, &data);
+                let take = self.take();
+                self.call(take);
+                if self.random.one_in(4) {
+                    self.plan.push_back(Step::TimerEnd(0));
+                }
+                if code == 0x1E || self.random.one_in(4) {
+                    self.plan.push_back(Step::Deliver);
+                }
+            }
+            68..=74 => {
+                (0..self.random.below(4)).for_each(|_| self.setting());
+                let data = if self.random.one_in(3) { self.data(64) } else { Vec::new() };
+                self.command(0x16, &data);
+                self.plan.push_back(Step::Deliver);
+            }
+            75..=83 => {
+                self.set(0x07, 0x3F);
+                for register in [0x2A, 0x2C] {
+                    let byte = lively(register, &mut self.random);
+                    self.set(register, byte);
+                }
+                let control = self.random.of(&[0x02, 0x02, 0x02, 0x06, 0x07]);
+                self.set(0x09, control);
+                let more = self.random.of(&[-1, -1, 0, 1, 2, 7, 300]);
+                self.plan.push_back(Step::TimerEnd(more));
+                for _ in 0..self.random.below(4) {
+                    match self.random.below(4) {
+                        0 => self.setting(),
+                        1 => self.plan.push_back(Step::Get(0x0C)),
+                        2 => self.set(0x09, 0x04),
+                        _ => {
+                            let clocks = self.random.of(&[0, 1, 1, 2, 3, 5, 8, 64, 1000, 65_535]);
+                            self.call(Call::Advance { clocks });
+                        }
+                    }
+                }
+            }
+            84..=87 => {
+                for _ in 0..=self.random.below(3) {
+                    let register = self.random.of(&[0x06, 0x07, 0x07, 0x09]);
+                    let byte = self.random.byte();
+                    self.set(register, byte);
+                }
+            }
+            88 if self.random.one_in(4) => (0..=0x3F).for_each(|register| self.plan.push_back(Step::Get(register))),
+            89 => {
+                let byte = self.random.of(&[0x00, 0x07, 0x78, 0x80, 0x81, 0x85, 0xFF, 0x7F]);
+                self.set(0x00, byte);
+            }
+            90 | 91 => {
+                let code = if self.random.one_in(2) { self.random.of(&COMMANDS) } else { self.random.byte() };
+                self.set(0x01, code);
+            }
+            92..=96 => return Some(self.corrupt(memory)),
+            88 | 97 | 98 => {
+                let register = self.random.byte() & 0x3F;
+                let byte = self.random.byte();
+                self.set(register, byte);
+                self.plan.push_back(Step::Get(register));
+            }
+            _ => return self.random.one_in(2).then(|| self.start()),
+        }
+        None
+    }
+
+    /// What the active command waits for, whichever way it became active.
+    fn go_on<const FAULT: u8>(&mut self, chip: &FaultyChip<FAULT>) {
+        let held = usize::from(chip.fifo.held());
+        match chip.command {
+            Command::Idle => {}
+            Command::LoadKey => {
+                let key = self.stored_key();
+                key[held.min(11)..].iter().for_each(|&byte| self.set(0x02, byte));
+            }
+            Command::WriteE2(Writing::Programming { .. }) => {
+                let more = self.random.of(&[-1, 0, 0, 1]);
+                self.plan.push_back(Step::ProgrammingEnd(more));
+            }
+            Command::WriteE2(Writing::Ready { .. }) | Command::CalcCrc => {
+                let data = self.data(20);
+                data.iter().for_each(|&byte| self.set(0x02, byte));
+            }
+            Command::WriteE2(Writing::Unaddressed) | Command::ReadE2 | Command::LoadConfig | Command::LoadKeyE2 => {
+                let [low, high] = self.address().to_le_bytes();
+                let bytes = [low, high, self.random.of(&[1, 2, 16])];
+                let wanted = if chip.command == Command::ReadE2 { 3 } else { 2 };
+                bytes[held.min(2)..wanted].iter().for_each(|&byte| self.set(0x02, byte));
+            }
+            command if command.sends() => {
+                if held == 0 {
+                    let data = self.data(20);
+                    data.iter().for_each(|&byte| self.set(0x02, byte));
+                }
+                let take = self.take();
+                self.call(take);
+            }
+            _ => self.plan.push_back(Step::Deliver),
+        }
+    }
+
+    /// WriteE2 with data, clocks to the end of each programming, and disturbances between.
+    fn plan_write(&mut self) {
+        let address = self.address();
+        let [low, high] = address.to_le_bytes();
+        let mut bytes = vec![low, high];
+        bytes.extend(if self.random.one_in(3) { self.stored_key() } else { self.data(66) });
+        self.command(0x01, &bytes);
+        for _ in 0..self.random.below(5) {
+            match self.random.below(10) {
+                0..=5 => {
+                    let more = self.random.of(&[-1, -1, 0, 0, 0, 1, 5]);
+                    self.plan.push_back(Step::ProgrammingEnd(more));
+                    if more < 0 {
+                        self.call(Call::Advance { clocks: 1 });
+                    }
+                }
+                6 => {
+                    let data = self.data(24);
+                    data.iter().for_each(|&byte| self.set(0x02, byte));
+                }
+                7 => {
+                    let code = self.random.of(&COMMANDS);
+                    self.set(0x01, code);
+                }
+                8 => self.plan.extend([Step::Get(0x05), Step::Get(0x02), Step::Get(0x07)]),
+                _ => self.set(0x09, 0x01),
+            }
+        }
+        if self.random.one_in(3) {
+            self.plan.extend([Step::ProgrammingEnd(0), Step::ProgrammingEnd(0), Step::ProgrammingEnd(0)]);
+            self.command(if address % 0x200 < 0x80 { 0x07 } else { 0x0B }, &[low, high]);
+        }
+    }
+
+    /// A frame for the settings of now: CRC and parity right or, now and then, wrong.
+    fn frame<const FAULT: u8>(&mut self, chip: &FaultyChip<FAULT>) -> Call {
+        let mode = chip.registers[0x12];
+        let mut checksum = Checksum::begin(mode, chip.registers[0x13], chip.registers[0x14]);
+        let mut bytes = self.data(64);
+        bytes.truncate(64);
+        if mode & 0x08 != 0 && !self.random.one_in(6) {
+            let width = checksum.width();
+            bytes.truncate(64 - width);
+            if self.random.one_in(8) {
+                bytes.clear();
+            }
+            bytes.iter().for_each(|&byte| checksum.add(byte));
+            bytes.extend(&checksum.result().to_le_bytes()[..width]);
+            if self.random.one_in(4) {
+                let place = bytes.len() - 1 - self.random.below(bytes.len().min(3) as u64) as usize;
+                bytes[place] ^= 1 << self.random.below(8);
+            }
+        }
+        let odd = mode >> 1 & 1;
+        let mut parities: Vec<u8> = bytes.iter().map(|byte| (byte.count_ones() as u8 ^ odd) & 1).collect();
+        if self.random.one_in(3) {
+            let place = match self.random.below(3) {
+                0 => parities.len() - 1,
+                1 => 0,
+                _ => self.random.below(parities.len() as u64) as usize,
+            };
+            parities[place] ^= 1;
+        }
+        Call::Deliver { bytes, parities, last_bits: self.random.of(&[0, 0, 0, 0, 0, 1, 3, 7]) }
+    }
+
+    // ---- Memory that the caller has written into --------------------------------------------------------------------------------------
+
+    fn corrupt(&mut self, memory: &Memory) -> Call {
+        let mut edits = Vec::new();
+        match self.random.below(8) {
+            0 => edits.push((self.random.below(40) as u16, self.random.byte())),
+            1 => {
+                let place = self.random.below(40) as u16;
+                let old = memory.0[usize::from(place)];
+                let new = match self.random.below(3) {
+                    0 => old.wrapping_add(1),
+                    1 => old.wrapping_sub(1),
+                    _ => old ^ 1 << self.random.below(8),
+                };
+                edits.push((place, new));
+            }
+            2 => {
+                for _ in 0..=self.random.below(4) {
+                    edits.push((self.random.below(SIZE as u64) as u16, self.random.byte()));
+                }
+            }
+            3 => {
+                // Slots, registers, latch, key: any bytes are well formed.
+                for _ in 0..=self.random.below(4) {
+                    edits.push((40 + self.random.below(118) as u16, self.random.byte()));
+                }
+            }
+            4 => (0..=self.random.below(3)).for_each(|_| self.forge(&mut edits)),
+            _ => self.forge(&mut edits),
+        }
+        self.mend_in = 2 + self.random.below(8);
+        if self.random.one_in(3) {
+            self.mend_in = 0;
+        }
+        self.plan.clear();
+        Call::Corrupt { edits }
+    }
+
+    /// Writes one part of a chip anew: well formed, or just not.
+    fn forge(&mut self, edits: &mut Vec<(u16, u8)>) {
+        let random = &mut self.random;
+        let mut put = |name: &str, value: u32| {
+            if let Some((_, start, length)) = FIELDS.iter().find(|(field, ..)| *field == name) {
+                edits.extend((0..*length).map(|place| ((start + place) as u16, (value >> (8 * place)) as u8)));
+            }
+        };
+        match random.below(9) {
+            0 | 1 => {
+                let prescaler = random.of(&[0, 0, 1, 2, 5, 12, 20, 21, 21, 22, 31, 32, 255]);
+                let period = 1u32.checked_shl(prescaler).unwrap_or(0);
+                put("timer.running", random.of(&[1, 1, 1, 1, 1, 1, 2, 255, 0]));
+                put("timer.value", random.of(&[0, 1, 1, 1, 2, 3, 100, 255]));
+                put("timer.prescaler", prescaler);
+                let within = random.below(u64::from(period).max(1)) as u32;
+                put("timer.phase", random.of(&[0, within, within, period.wrapping_sub(1), period.wrapping_sub(1), period, u32::MAX]));
+            }
+            2 => {
+                put("timer.running", 0);
+                put("timer.value", u32::from(random.byte()));
+                put("timer.prescaler", random.of(&[0, 0, 0, 0, 1, 21]));
+                put("timer.phase", random.of(&[0, 0, 0, 0, 1, 0x0100, 0x1_0000, 0x100_0000]));
+            }
+            3 | 4 => {
+                let next = match random.below(3) {
+                    0 => random
+                        .of(&[0x000, 0x001, 0x00F, 0x010, 0x011, 0x012, 0x01F, 0x020, 0x021, 0x1F0, 0x1FF, 0x1FF, 0x200, 0x201, 0x400]),
+                    1 => 16 * random.below(33) as u32,
+                    _ => random.below(0x200) as u32,
+                };
+                let fitting = if next % 16 == 0 { 16 } else { next % 16 };
+                put("command", random.of(&[1, 1, 1, 1, 1, 1, 1, 1, 0, 3]));
+                put("sending", 0);
+                put("receiving", 0);
+                put("writing.addressed", random.of(&[1, 1, 1, 1, 1, 1, 1, 0, 2]));
+                put("writing.next", next);
+                put("writing.latched", random.of(&[fitting, fitting, 1, 1 + random.clone().below(16) as u32, 0, 16, 17, 255]));
+                let any = random.below(u64::from(PROGRAMMING_CLOCKS)) as u32;
+                put(
+                    "writing.left",
+                    random.of(&[
+                        any,
+                        any,
+                        1,
+                        1,
+                        2,
+                        65_535,
+                        65_536,
+                        PROGRAMMING_CLOCKS,
+                        PROGRAMMING_CLOCKS,
+                        PROGRAMMING_CLOCKS + 1,
+                        0,
+                        0x100_0001,
+                    ]),
+                );
+            }
+            5 | 6 => {
+                let code = random.of(&COMMANDS);
+                let limit = match code {
+                    0x01 | 0x07 | 0x0B => 1,
+                    0x03 => 2,
+                    0x12 => 0,
+                    0x19 => 11,
+                    _ => 64,
+                };
+                let read = random.byte();
+                let held = random.of(&[0, 0, 0, limit, limit, limit, limit + 1, 64, 65, 128, 255]);
+                let receives = code == 0x16 || code == 0x1E && random.one_in(2);
+                let sends = code == 0x1A || code == 0x1E && !receives;
+                let wrong = random.one_in(6);
+                put("command", u32::from(code));
+                put("sending", u32::from(sends ^ (wrong && random.one_in(2))));
+                put("receiving", u32::from(receives ^ (wrong && random.one_in(2))));
+                put("ring.read", u32::from(read));
+                put("ring.write", u32::from(read.wrapping_add(held)));
+                put("writing.addressed", u32::from(code == 1 && random.one_in(3)));
+                put("writing.latched", 0);
+                put("writing.left", 0);
+                put("errors", u32::from(random.byte() & 0x7A));
+            }
+            7 => {
+                put("checksum.mode", u32::from(random.byte()));
+                let value = random.of(&[random.clone().byte() as u32, random.clone().number() as u32, 0xFF, 0x100]);
+                put("checksum.value", value);
+            }
+            _ => {
+                let (name, mask) = random.of(&[
+                    ("page", 0x87),
+                    ("errors", 0x7A),
+                    ("control", 0x30),
+                    ("interrupts.enables", 0x3F),
+                    ("interrupts.requests", 0x3F),
+                    ("rx_last_bits", 0x07),
+                    ("key_loaded", 0x01),
+                    ("bit_framing", 0xFF),
+                ]);
+                let byte = random.byte() & mask;
+                let byte = if random.one_in(3) { byte ^ 1 << random.below(8) } else { byte };
+                put(name, u32::from(byte));
+            }
+        }
+    }
+}

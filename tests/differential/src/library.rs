@@ -1,0 +1,105 @@
+//! The library under test by its C interface, or, with the feature `stub`, a stand-in made of the plain chip.
+
+use crate::chip_memory::ChipMemory;
+
+/// What the program says it runs against.
+#[cfg(not(feature = "stub"))]
+pub const NAME: &str = "the library";
+#[cfg(feature = "stub")]
+pub const NAME: &str = "a STAND-IN made of the plain chip (feature stub): this compares nothing with the library";
+
+#[cfg(not(feature = "stub"))]
+extern "C" {
+    pub fn mfrc531_start(chip: *mut ChipMemory, image: *const u8, length: usize) -> u32;
+    pub fn mfrc531_read(chip: *mut ChipMemory, address: u8) -> u32;
+    pub fn mfrc531_write(chip: *mut ChipMemory, address: u8, byte: u8) -> u32;
+    pub fn mfrc531_advance(chip: *mut ChipMemory, clocks: u32) -> u32;
+    pub fn mfrc531_take(chip: *mut ChipMemory, buffer: *mut u8, length: usize) -> u32;
+    pub fn mfrc531_deliver(
+        chip: *mut ChipMemory,
+        bytes: *const u8,
+        length: usize,
+        parities: *const u8,
+        parity_length: usize,
+        last_bits: u8,
+    ) -> u32;
+    pub fn mfrc531_check_profile(profile: *const u8, length: usize) -> u32;
+    pub fn mfrc531_choose(user: *const u8, user_length: usize, rescue: *const u8, rescue_length: usize) -> u32;
+}
+
+#[cfg(feature = "stub")]
+pub use stub::*;
+
+#[cfg(feature = "stub")]
+mod stub {
+    use super::ChipMemory;
+    use crate::chip_memory::{plain_of, store};
+    use crate::plain::{Chip, Refusal};
+    use crate::profile;
+    use std::slice;
+
+    /// One event on the chip of a memory. The FIFO begins at another position after each, since no definition decides where.
+    fn event(chip: *mut ChipMemory, event: impl FnOnce(&mut Chip) -> Result<u32, Refusal>) -> u32 {
+        // SAFETY: the caller's pointer is good.
+        let memory = unsafe { &mut *chip };
+        let Ok(mut plain) = plain_of(memory) else {
+            return Refusal::ChipMalformed as u32;
+        };
+        match event(&mut plain) {
+            Ok(answer) => {
+                let position = memory.core.ring.read.wrapping_add(37);
+                store(&plain, position, memory);
+                answer
+            }
+            Err(refusal) => refusal as u32,
+        }
+    }
+
+    pub unsafe fn mfrc531_start(chip: *mut ChipMemory, image: *const u8, length: usize) -> u32 {
+        match Chip::started(slice::from_raw_parts(image, length)) {
+            Ok(plain) => {
+                store(&plain, 0, &mut *chip);
+                0
+            }
+            Err(refusal) => refusal as u32,
+        }
+    }
+
+    pub unsafe fn mfrc531_read(chip: *mut ChipMemory, address: u8) -> u32 {
+        event(chip, |plain| plain.read(address).map(|byte| u32::from(byte) << 8))
+    }
+
+    pub unsafe fn mfrc531_write(chip: *mut ChipMemory, address: u8, byte: u8) -> u32 {
+        event(chip, |plain| plain.write(address, byte).map(|()| 0))
+    }
+
+    pub unsafe fn mfrc531_advance(chip: *mut ChipMemory, clocks: u32) -> u32 {
+        event(chip, |plain| plain.advance(clocks).map(|()| 0))
+    }
+
+    pub unsafe fn mfrc531_take(chip: *mut ChipMemory, buffer: *mut u8, length: usize) -> u32 {
+        let buffer = slice::from_raw_parts_mut(buffer, length);
+        event(chip, |plain| plain.take(buffer).map(|taken| u32::from(taken.count) << 8 | u32::from(taken.last_bits) << 16))
+    }
+
+    pub unsafe fn mfrc531_deliver(
+        chip: *mut ChipMemory,
+        bytes: *const u8,
+        length: usize,
+        parities: *const u8,
+        parity_length: usize,
+        last_bits: u8,
+    ) -> u32 {
+        let bytes = slice::from_raw_parts(bytes, length);
+        let parities = slice::from_raw_parts(parities, parity_length);
+        event(chip, |plain| plain.deliver(bytes, parities, last_bits).map(|()| 0))
+    }
+
+    pub unsafe fn mfrc531_check_profile(profile: *const u8, length: usize) -> u32 {
+        profile::check(slice::from_raw_parts(profile, length)).err().map_or(0, profile::Fault::answer)
+    }
+
+    pub unsafe fn mfrc531_choose(user: *const u8, user_length: usize, rescue: *const u8, rescue_length: usize) -> u32 {
+        profile::choose(slice::from_raw_parts(user, user_length), slice::from_raw_parts(rescue, rescue_length))
+    }
+}

@@ -1,0 +1,931 @@
+//! The MFRC531 reader bench in plain Rust: host registers, FIFO, EEPROM, timer, requests, CRC, commands and frames.
+//!
+//! Written from document 01 ("Statement of what to build and rules"), as firmware people would write it, to be compared with the proved
+//! library and raced against it. Nothing here allocates; every event but `advance` and the commands' block moves is a few instructions, and
+//! `advance` jumps over clocks in which nothing happens.
+//!
+//! The types leave no room for most malformed states: the stages of WriteE2 stand inside the command, and what a timer keeps exists only
+//! while it runs. What the types do allow and document 01 does not is judged where a chip's memory is read (`chip_memory`).
+
+/// Clocks of 13.56 MHz that one programming of the EEPROM takes: 5.8 ms.
+pub const PROGRAMMING_CLOCKS: u32 = 78_648;
+
+/// Bytes of an EEPROM image.
+pub const EEPROM_SIZE: usize = 512;
+
+/// The least that a take's buffer has to hold: a full FIFO and a CRC.
+pub const TAKE_BUFFER: usize = 66;
+
+/// Faults that can be planted, one by one, to see that a comparison notices them. `Chip` is the chip without a fault.
+pub mod fault {
+    pub const NONE: u8 = 0;
+    pub const WATER_LEVEL_OFF_BY_ONE: u8 = 1;
+    pub const COMMAND_WRITE_CLEARS_OVERFLOW: u8 = 2;
+    pub const OVERFLOW_DROPS_OLDEST: u8 = 3;
+    pub const RUNNING_TIMER_TAKES_PRESCALER: u8 = 4;
+    pub const WRITE_RUNS_ON_TO_BLOCK_0: u8 = 5;
+    pub const LOAD_CONFIG_FROM_061: u8 = 6;
+    pub const READ_E2_OF_080: u8 = 7;
+    pub const FRAME_OF_CRC_ONLY_IS_SHORT: u8 = 8;
+    pub const PARITY_OF_INCOMPLETE_BYTE: u8 = 9;
+    pub const TX_REQUEST_AT_EVERY_PROGRAMMING: u8 = 10;
+    pub const GOOD_KEY_CLEARS_KEY_ERROR: u8 = 11;
+    pub const IGNORED_COMMAND_CLEARS_ERRORS: u8 = 12;
+    pub const KEY_FROM_1F5: u8 = 13;
+    pub const PROGRAMMING_ONE_CLOCK_SHORT: u8 = 14;
+    pub const CRC3309_BEFORE_CRC8: u8 = 15;
+    pub const ALERTS_JUDGED_BYTE_BY_BYTE: u8 = 16;
+    pub const FULL_PHASE_IS_WELL_FORMED: u8 = 17;
+    pub const TAKE_CLEARS_LAST_BITS: u8 = 18;
+
+    /// What the faults are, from 1 on.
+    pub const NAMES: [&str; 18] = [
+        "WaterLevel is off by one",
+        "a Command write clears FIFOOvfl",
+        "an overflow drops the oldest byte",
+        "a running timer takes a new TPreScaler",
+        "WriteE2 runs on from 1FFh to 000h",
+        "LoadConfig may start at 061h",
+        "ReadE2 may read 080h",
+        "a frame of exactly the CRC sets CRCErr",
+        "parity is tested on an incomplete byte",
+        "TxIRq is set by a programming after which bytes wait",
+        "a good key clears KeyErr",
+        "a Command write that is ignored clears error flags",
+        "LoadKeyE2 may start at 1F5h",
+        "a programming takes one clock less",
+        "CRC3309 goes before CRC8",
+        "a byte that a command takes at once raises a LoAlert request",
+        "a phase of 2^prescaler is well formed",
+        "a take clears TxLastBits",
+    ];
+}
+
+/// Why an event did not happen. The chip and every buffer are as before.
+#[derive(Clone, Copy, PartialEq, Eq, Debug)]
+#[repr(u8)]
+pub enum Refusal {
+    AddressAbove63 = 1,
+    ImageNot512Bytes = 2,
+    Over65535Clocks = 3,
+    NotSendingOrReceiving = 4,
+    FrameMalformed = 5,
+    BufferUnder66Bytes = 6,
+    ChipMalformed = 7,
+}
+
+/// What a take answers.
+#[derive(Clone, Copy, PartialEq, Eq, Debug)]
+pub struct Taken {
+    /// Bytes written to the buffer, CRC included.
+    pub count: u8,
+    /// BitFraming (0Fh) bits 2-0.
+    pub last_bits: u8,
+}
+
+/// Bits of InterruptEn (06h) and InterruptRq (07h).
+pub mod request {
+    pub const TIMER: u8 = 1 << 5;
+    pub const TX: u8 = 1 << 4;
+    pub const RX: u8 = 1 << 3;
+    pub const IDLE: u8 = 1 << 2;
+    #[cfg(test)]
+    pub const HI_ALERT: u8 = 1 << 1;
+    #[cfg(test)]
+    pub const LO_ALERT: u8 = 1;
+    pub const ALL: u8 = 0x3F;
+}
+
+/// Bits of ErrorFlag (0Ah).
+pub mod error {
+    pub const KEY: u8 = 1 << 6;
+    pub const ACCESS: u8 = 1 << 5;
+    pub const OVERFLOW: u8 = 1 << 4;
+    pub const CRC: u8 = 1 << 3;
+    pub const PARITY: u8 = 1 << 1;
+    pub const ALL: u8 = KEY | ACCESS | OVERFLOW | CRC | PARITY;
+}
+
+/// Registers that the chip itself looks at, by their place among 10h-2Fh.
+mod setting {
+    pub const CHANNEL_REDUNDANCY: usize = 0x22 - 0x10;
+    pub const CRC_PRESET_LOW: usize = 0x23 - 0x10;
+    pub const CRC_PRESET_HIGH: usize = 0x24 - 0x10;
+    pub const FIFO_LEVEL: usize = 0x29 - 0x10;
+    pub const TIMER_CLOCK: usize = 0x2A - 0x10;
+    pub const TIMER_CONTROL: usize = 0x2B - 0x10;
+    pub const TIMER_RELOAD: usize = 0x2C - 0x10;
+}
+
+/// Bits of ChannelRedundancy (22h).
+mod redundancy {
+    pub const CRC_3309: u8 = 1 << 5;
+    pub const CRC_8: u8 = 1 << 4;
+    pub const RX_CRC: u8 = 1 << 3;
+    pub const TX_CRC: u8 = 1 << 2;
+    pub const PARITY_ODD: u8 = 1 << 1;
+    pub const PARITY: u8 = 1;
+}
+
+// ---- FIFO ------------------------------------------------------------------------------------------------------------------------------
+
+/// Sixty-four bytes, first in, first out.
+#[derive(Clone, Debug)]
+pub struct Fifo {
+    slots: [u8; 64],
+    first: u8,
+    held: u8,
+}
+
+impl Fifo {
+    pub const SIZE: u8 = 64;
+
+    pub const fn new() -> Self {
+        Fifo { slots: [0; 64], first: 0, held: 0 }
+    }
+
+    #[inline]
+    pub fn held(&self) -> u8 {
+        self.held
+    }
+
+    /// Adds a byte at the end, or answers false when there is no room.
+    #[inline]
+    pub fn push(&mut self, byte: u8) -> bool {
+        if self.held == Self::SIZE {
+            return false;
+        }
+        self.slots[usize::from(self.first.wrapping_add(self.held) % Self::SIZE)] = byte;
+        self.held += 1;
+        true
+    }
+
+    /// Takes the oldest byte.
+    #[inline]
+    pub fn pop(&mut self) -> Option<u8> {
+        if self.held == 0 {
+            return None;
+        }
+        let byte = self.slots[usize::from(self.first)];
+        self.first = (self.first + 1) % Self::SIZE;
+        self.held -= 1;
+        Some(byte)
+    }
+
+    #[inline]
+    pub fn clear(&mut self) {
+        self.held = 0;
+    }
+
+    /// The held bytes, oldest first.
+    pub fn bytes(&self) -> impl Iterator<Item = u8> + '_ {
+        (0..self.held).map(|place| self.slots[usize::from((self.first + place) % Self::SIZE)])
+    }
+
+    /// Takes a 16-bit number, low byte first. The caller knows that two bytes are held.
+    fn pop_address(&mut self) -> u16 {
+        let low = self.pop().unwrap_or(0);
+        let high = self.pop().unwrap_or(0);
+        u16::from_le_bytes([low, high]) % EEPROM_SIZE as u16
+    }
+}
+
+impl Default for Fifo {
+    fn default() -> Self {
+        Self::new()
+    }
+}
+
+// ---- Checksums -------------------------------------------------------------------------------------------------------------------------
+
+/// x^16 + x^12 + x^5 + 1, least bit first, for each byte.
+static TABLE_16: [u16; 256] = table_16();
+/// x^8 + x^4 + x^3 + x^2 + 1, least bit first, for each byte.
+static TABLE_8: [u8; 256] = table_8();
+
+const fn table_16() -> [u16; 256] {
+    let mut table = [0; 256];
+    let mut index = 0;
+    while index < 256 {
+        let mut value = index as u16;
+        let mut bit = 0;
+        while bit < 8 {
+            value = if value & 1 == 1 { value >> 1 ^ 0x8408 } else { value >> 1 };
+            bit += 1;
+        }
+        table[index] = value;
+        index += 1;
+    }
+    table
+}
+
+const fn table_8() -> [u8; 256] {
+    let mut table = [0; 256];
+    let mut index = 0;
+    while index < 256 {
+        let mut value = index as u8;
+        let mut bit = 0;
+        while bit < 8 {
+            value = if value & 1 == 1 { value >> 1 ^ 0xB8 } else { value >> 1 };
+            bit += 1;
+        }
+        table[index] = value;
+        index += 1;
+    }
+    table
+}
+
+/// The checksum unit: its register, and the byte of ChannelRedundancy that it goes by.
+#[derive(Clone, Copy, PartialEq, Eq, Debug, Default)]
+pub struct Checksum {
+    pub value: u16,
+    pub mode: u8,
+}
+
+impl Checksum {
+    /// As it begins, from ChannelRedundancy and the two presets. Eight bits wide it uses the low preset only.
+    pub fn begin(mode: u8, low: u8, high: u8) -> Self {
+        let high = if mode & redundancy::CRC_8 != 0 { 0 } else { high };
+        Checksum { value: u16::from_le_bytes([low, high]), mode }
+    }
+
+    pub fn is_8_bits(&self) -> bool {
+        self.mode & redundancy::CRC_8 != 0
+    }
+
+    /// Bytes that it takes in a frame.
+    pub fn width(&self) -> usize {
+        if self.is_8_bits() {
+            1
+        } else {
+            2
+        }
+    }
+
+    #[inline]
+    pub fn add(&mut self, byte: u8) {
+        let index = usize::from(self.value as u8 ^ byte);
+        self.value = if self.is_8_bits() { u16::from(TABLE_8[index]) } else { self.value >> 8 ^ TABLE_16[index] };
+    }
+
+    /// What the host sees, low byte first: CRC3309 complements 16 bits, and never eight.
+    pub fn result(&self) -> u16 {
+        if self.mode & redundancy::CRC_3309 != 0 && !self.is_8_bits() {
+            !self.value
+        } else {
+            self.value
+        }
+    }
+}
+
+// ---- Keys ------------------------------------------------------------------------------------------------------------------------------
+
+/// A key from its twelve stored bytes: two for each byte, upper nibble first, each nibble complemented in the upper half.
+pub fn key_of(stored: &[u8; 12]) -> Option<[u8; 6]> {
+    let mut key = [0; 6];
+    for (byte, pair) in key.iter_mut().zip(stored.chunks_exact(2)) {
+        if pair.iter().any(|half| half >> 4 != !half & 0x0F) {
+            return None;
+        }
+        *byte = pair[0] << 4 | pair[1] & 0x0F;
+    }
+    Some(key)
+}
+
+/// A nibble as a key's memory has it.
+pub fn stored_nibble(nibble: u8) -> u8 {
+    (!nibble & 0x0F) << 4 | nibble & 0x0F
+}
+
+// ---- Timer and command -----------------------------------------------------------------------------------------------------------------
+
+/// What the timer keeps while it runs.
+#[derive(Clone, Copy, PartialEq, Eq, Debug)]
+pub struct Run {
+    pub prescaler: u8,
+    pub phase: u32,
+}
+
+/// The timer: its value can be read also when it stands.
+#[derive(Clone, Copy, PartialEq, Eq, Debug, Default)]
+pub struct Timer {
+    pub value: u8,
+    pub run: Option<Run>,
+}
+
+/// How far WriteE2 has got.
+#[derive(Clone, Copy, PartialEq, Eq, Debug)]
+pub enum Writing {
+    /// Waits for its two address bytes.
+    Unaddressed,
+    /// Has its address, and waits for data.
+    Ready { next: u16 },
+    /// Programs the first `latched` bytes of the latch, which go right before `next`.
+    Programming { next: u16, latched: u8, left: u32 },
+}
+
+/// The active command.
+#[derive(Clone, Copy, PartialEq, Eq, Debug)]
+pub enum Command {
+    Idle,
+    WriteE2(Writing),
+    ReadE2,
+    LoadConfig,
+    LoadKeyE2,
+    CalcCrc,
+    Receive,
+    LoadKey,
+    Transmit,
+    /// Sends first, and receives after a take.
+    Transceive {
+        receiving: bool,
+    },
+}
+
+impl Command {
+    /// The command of a code as it begins; none for a code that is no command.
+    pub fn of_code(code: u8) -> Option<Self> {
+        Some(match code {
+            0x00 => Command::Idle,
+            0x01 => Command::WriteE2(Writing::Unaddressed),
+            0x03 => Command::ReadE2,
+            0x07 => Command::LoadConfig,
+            0x0B => Command::LoadKeyE2,
+            0x12 => Command::CalcCrc,
+            0x16 => Command::Receive,
+            0x19 => Command::LoadKey,
+            0x1A => Command::Transmit,
+            0x1E => Command::Transceive { receiving: false },
+            _ => return None,
+        })
+    }
+
+    pub fn code(self) -> u8 {
+        match self {
+            Command::Idle => 0x00,
+            Command::WriteE2(_) => 0x01,
+            Command::ReadE2 => 0x03,
+            Command::LoadConfig => 0x07,
+            Command::LoadKeyE2 => 0x0B,
+            Command::CalcCrc => 0x12,
+            Command::Receive => 0x16,
+            Command::LoadKey => 0x19,
+            Command::Transmit => 0x1A,
+            Command::Transceive { .. } => 0x1E,
+        }
+    }
+
+    pub fn sends(self) -> bool {
+        matches!(self, Command::Transmit | Command::Transceive { receiving: false })
+    }
+
+    pub fn receives(self) -> bool {
+        matches!(self, Command::Receive | Command::Transceive { receiving: true })
+    }
+
+    pub fn programs(self) -> bool {
+        matches!(self, Command::WriteE2(Writing::Programming { .. }))
+    }
+
+    /// The most bytes that can wait in the FIFO while the command does nothing about them.
+    pub fn waits(self) -> u8 {
+        match self {
+            Command::WriteE2(Writing::Unaddressed) | Command::LoadConfig | Command::LoadKeyE2 => 1,
+            Command::WriteE2(Writing::Ready { .. }) | Command::CalcCrc => 0,
+            Command::ReadE2 => 2,
+            Command::LoadKey => 11,
+            Command::Idle
+            | Command::WriteE2(Writing::Programming { .. })
+            | Command::Receive
+            | Command::Transmit
+            | Command::Transceive { .. } => Fifo::SIZE,
+        }
+    }
+}
+
+// ---- The chip --------------------------------------------------------------------------------------------------------------------------
+
+/// The chip.
+#[allow(dead_code)] // by this program, which always says which fault it means
+pub type Chip = FaultyChip<{ fault::NONE }>;
+
+/// The chip with one of the faults of `fault` planted, or none.
+#[derive(Clone, Debug)]
+pub struct FaultyChip<const FAULT: u8> {
+    pub fifo: Fifo,
+    pub timer: Timer,
+    pub command: Command,
+    /// What WriteE2 programs.
+    pub latch: [u8; 16],
+    /// What CRC result (0Dh, 0Eh) shows.
+    pub checksum: Checksum,
+    /// The one Page register.
+    pub page: u8,
+    pub enables: u8,
+    pub requests: u8,
+    pub errors: u8,
+    /// Control (09h), of which bits 5 and 4 are stored.
+    pub control: u8,
+    pub rx_last_bits: u8,
+    /// BitFraming (0Fh).
+    pub bit_framing: u8,
+    pub key: Option<[u8; 6]>,
+    /// 10h-2Fh; the Page positions among them are never read.
+    pub registers: [u8; 32],
+    pub eeprom: [u8; EEPROM_SIZE],
+}
+
+impl<const FAULT: u8> FaultyChip<FAULT> {
+    /// A chip as a start from an image leaves it.
+    pub fn started(image: &[u8]) -> Result<Self, Refusal> {
+        let eeprom: &[u8; EEPROM_SIZE] = image.try_into().map_err(|_| Refusal::ImageNot512Bytes)?;
+        let mut chip = FaultyChip {
+            fifo: Fifo::new(),
+            timer: Timer::default(),
+            command: Command::Idle,
+            latch: [0; 16],
+            checksum: Checksum::default(),
+            page: 0x80,
+            enables: 0,
+            requests: 0,
+            errors: error::KEY,
+            control: 0,
+            rx_last_bits: 0,
+            bit_framing: 0,
+            key: None,
+            registers: [0; 32],
+            eeprom: *eeprom,
+        };
+        chip.load_registers(0x010);
+        Ok(chip)
+    }
+
+    /// Document 01's "A state is malformed (7) unless", as far as the types leave it open. The events lead from well-formed chips to such.
+    #[inline]
+    pub fn well_formed(&self) -> bool {
+        let timer = match self.timer.run {
+            Some(run) => self.timer.value >= 1 && run.prescaler <= 21 && run.phase < 1 << run.prescaler,
+            None => true,
+        };
+        let writing = match self.command {
+            Command::WriteE2(Writing::Ready { next }) => next < 0x200,
+            Command::WriteE2(Writing::Programming { next, latched, left }) => {
+                let first = (next + 0x200 - u16::from(latched)) % 0x200;
+                let inside = (1..=16).contains(&latched) && first % 16 + u16::from(latched) <= 16 && first >= 0x10;
+                next < 0x200 && (1..=78_648).contains(&left) && inside
+            }
+            _ => true,
+        };
+        let zeros = (self.enables | self.requests) & 0xC0
+            | self.errors & 0x85
+            | self.page & 0x78
+            | self.control & 0xCF
+            | self.rx_last_bits & 0xF8;
+        let checksum = !self.checksum.is_8_bits() || self.checksum.value < 0x100;
+        self.fifo.held() <= self.command.waits() && timer && writing && zeros == 0 && checksum
+    }
+
+    /// A start: from whatever the chip was to a fresh one with this image.
+    pub fn start(&mut self, image: &[u8]) -> Result<(), Refusal> {
+        *self = Self::started(image)?;
+        Ok(())
+    }
+
+    /// A host read of a register. Only a read of FIFOData changes the chip.
+    #[inline]
+    pub fn read(&mut self, address: u8) -> Result<u8, Refusal> {
+        if address > 63 {
+            return Err(Refusal::AddressAbove63);
+        }
+        Ok(match self.register(address) {
+            0x00 => self.page,
+            0x01 => self.command.code(),
+            0x02 => {
+                let before = self.alerts();
+                let byte = self.fifo.pop().unwrap_or(0);
+                self.raise_alerts(before);
+                byte
+            }
+            0x03 => {
+                let irq = self.requests & self.enables != 0;
+                let err = self.errors != 0;
+                u8::from(irq) << 3 | u8::from(err) << 2 | self.alerts()
+            }
+            0x04 => self.fifo.held(),
+            0x05 => {
+                let ready = !self.command.programs();
+                u8::from(self.timer.run.is_some()) << 7 | u8::from(ready) << 6 | 1 << 5 | self.rx_last_bits
+            }
+            0x06 => self.enables,
+            0x07 => self.requests,
+            0x09 => self.control,
+            0x0A => self.errors,
+            0x0C => self.timer.value,
+            0x0D => self.checksum.result() as u8,
+            0x0E => (self.checksum.result() >> 8) as u8,
+            0x0F => self.bit_framing,
+            register @ 0x10..=0x2F => self.registers[usize::from(register - 0x10)],
+            _ => 0,
+        })
+    }
+
+    /// A host write to a register. The active command then does what it can.
+    #[inline]
+    pub fn write(&mut self, address: u8, byte: u8) -> Result<(), Refusal> {
+        if address > 63 {
+            return Err(Refusal::AddressAbove63);
+        }
+        let before = self.alerts();
+        match self.register(address) {
+            0x00 => self.page = byte & 0x87,
+            0x01 => self.write_command(byte & 0x3F),
+            0x02 => {
+                self.offer(byte);
+                if FAULT == fault::ALERTS_JUDGED_BYTE_BY_BYTE {
+                    self.raise_alerts(before);
+                    let before = self.alerts();
+                    self.work();
+                    self.raise_alerts(before);
+                }
+                self.work();
+            }
+            0x06 => self.enables = marked(self.enables, byte),
+            0x07 => self.requests = marked(self.requests, byte),
+            0x09 => self.write_control(byte),
+            0x0F => self.bit_framing = byte,
+            register @ 0x10..=0x2F => {
+                self.registers[usize::from(register - 0x10)] = byte;
+                if FAULT == fault::RUNNING_TIMER_TAKES_PRESCALER && register == 0x2A && byte & 0x1F <= 21 {
+                    if let Some(run) = &mut self.timer.run {
+                        *run = Run { prescaler: byte & 0x1F, phase: 0 };
+                    }
+                }
+            }
+            _ => {}
+        }
+        self.raise_alerts(before);
+        Ok(())
+    }
+
+    /// An advance by clocks of 13.56 MHz. The timer and the programming see nothing of each other, so each jumps by itself.
+    #[inline]
+    pub fn advance(&mut self, clocks: u32) -> Result<(), Refusal> {
+        if clocks > 65_535 {
+            return Err(Refusal::Over65535Clocks);
+        }
+        let before = self.alerts();
+        self.advance_timer(clocks);
+        self.advance_programming(clocks);
+        self.raise_alerts(before);
+        Ok(())
+    }
+
+    /// A take of the frame that the chip sends: all held bytes, and the CRC if there is to be one.
+    pub fn take(&mut self, buffer: &mut [u8]) -> Result<Taken, Refusal> {
+        if buffer.len() < TAKE_BUFFER {
+            return Err(Refusal::BufferUnder66Bytes);
+        }
+        if !self.command.sends() || self.fifo.held() == 0 {
+            return Err(Refusal::NotSendingOrReceiving);
+        }
+        let before = self.alerts();
+        let mut count = 0;
+        let mut checksum = self.frame_checksum();
+        while let Some(byte) = self.fifo.pop() {
+            checksum.add(byte);
+            buffer[count] = byte;
+            count += 1;
+        }
+        let last_bits = self.bit_framing & 7;
+        if self.registers[setting::CHANNEL_REDUNDANCY] & redundancy::TX_CRC != 0 && last_bits == 0 {
+            let width = checksum.width();
+            buffer[count..count + width].copy_from_slice(&checksum.result().to_le_bytes()[..width]);
+            count += width;
+        }
+        // The frame's begin, then its end: bits 0 and 1. With no clock between them one start is seen.
+        if self.registers[setting::TIMER_CONTROL] & 0b11 != 0 {
+            self.start_timer();
+        }
+        self.requests |= request::TX;
+        match self.command {
+            Command::Transceive { .. } => self.command = Command::Transceive { receiving: true },
+            _ => self.end(),
+        }
+        if FAULT == fault::TAKE_CLEARS_LAST_BITS {
+            self.bit_framing &= !7;
+        }
+        self.raise_alerts(before);
+        Ok(Taken { count: count as u8, last_bits })
+    }
+
+    /// A delivery of a frame that the chip receives: its bytes, the parity bit of each, and how many bits of the last byte count (0: all).
+    pub fn deliver(&mut self, bytes: &[u8], parities: &[u8], last_bits: u8) -> Result<(), Refusal> {
+        if bytes.is_empty() || bytes.len() > 64 || parities.len() != bytes.len() || parities.iter().any(|&bit| bit > 1) || last_bits > 7 {
+            return Err(Refusal::FrameMalformed);
+        }
+        if !self.command.receives() {
+            return Err(Refusal::NotSendingOrReceiving);
+        }
+        let before = self.alerts();
+        let mode = self.registers[setting::CHANNEL_REDUNDANCY];
+        if mode & redundancy::PARITY != 0 {
+            let left_out = usize::from(last_bits != 0 && FAULT != fault::PARITY_OF_INCOMPLETE_BYTE);
+            let complete = bytes.len() - left_out;
+            let wanted = u32::from(mode & redundancy::PARITY_ODD != 0);
+            let right = |(byte, &bit): (&u8, &u8)| (byte.count_ones() + u32::from(bit)) % 2 == wanted;
+            if !bytes[..complete].iter().zip(parities).all(right) {
+                self.errors |= error::PARITY;
+            }
+        }
+        let mut passed = bytes;
+        if mode & redundancy::RX_CRC != 0 {
+            let mut checksum = self.frame_checksum();
+            let width = checksum.width();
+            let short = if FAULT == fault::FRAME_OF_CRC_ONLY_IS_SHORT { bytes.len() <= width } else { bytes.len() < width };
+            if short || last_bits != 0 {
+                self.errors |= error::CRC;
+            } else {
+                let (data, trailer) = bytes.split_at(bytes.len() - width);
+                data.iter().for_each(|&byte| checksum.add(byte));
+                if trailer != &checksum.result().to_le_bytes()[..width] {
+                    self.errors |= error::CRC;
+                }
+                passed = data;
+            }
+        }
+        passed.iter().for_each(|&byte| self.offer(byte));
+        self.rx_last_bits = last_bits;
+        if self.registers[setting::TIMER_CONTROL] & 0b1100 != 0 {
+            self.timer.run = None;
+        }
+        self.requests |= request::RX;
+        self.end();
+        self.raise_alerts(before);
+        Ok(())
+    }
+
+    // ---- Registers ---------------------------------------------------------------------------------------------------------------------
+
+    /// The register that a host address means now. Every multiple of eight is Page (00h).
+    #[inline]
+    pub fn register(&self, address: u8) -> u8 {
+        match (address % 8, self.page & 0x80 != 0) {
+            (0, _) => 0,
+            (low, true) => (self.page & 7) << 3 | low,
+            (_, false) => address,
+        }
+    }
+
+    /// HiAlert in bit 1 and LoAlert in bit 0, as PrimaryStatus and the requests have them.
+    #[inline]
+    fn alerts(&self) -> u8 {
+        let level = self.registers[setting::FIFO_LEVEL] & 0x3F;
+        let level = if FAULT == fault::WATER_LEVEL_OFF_BY_ONE { level + 1 } else { level };
+        let held = self.fifo.held();
+        let hi = Fifo::SIZE - held <= level;
+        let lo = held <= level;
+        u8::from(hi) << 1 | u8::from(lo)
+    }
+
+    /// Requests what the event has raised.
+    #[inline]
+    fn raise_alerts(&mut self, before: u8) {
+        self.requests |= self.alerts() & !before;
+    }
+
+    fn write_control(&mut self, byte: u8) {
+        self.control = byte & 0x30;
+        if byte & 1 != 0 {
+            self.fifo.clear();
+            self.errors &= !error::OVERFLOW;
+        }
+        if byte & 4 != 0 {
+            self.timer.run = None;
+        }
+        if byte & 2 != 0 {
+            self.start_timer();
+        }
+    }
+
+    fn write_command(&mut self, code: u8) {
+        if self.command.programs() {
+            if FAULT == fault::IGNORED_COMMAND_CLEARS_ERRORS {
+                self.errors &= !(error::ACCESS | error::CRC | error::PARITY);
+            }
+            return;
+        }
+        self.errors &= !(error::ACCESS | error::CRC | error::PARITY);
+        if FAULT == fault::COMMAND_WRITE_CLEARS_OVERFLOW {
+            self.errors &= !error::OVERFLOW;
+        }
+        let Some(command) = Command::of_code(code) else {
+            self.end();
+            return;
+        };
+        self.command = command;
+        match command {
+            Command::LoadKey | Command::LoadKeyE2 => self.errors &= !error::KEY,
+            Command::CalcCrc => self.checksum = self.frame_checksum(),
+            _ => {}
+        }
+        self.work();
+    }
+
+    /// A byte for the FIFO. The newest one is lost when it is full.
+    #[inline]
+    fn offer(&mut self, byte: u8) {
+        if !self.fifo.push(byte) {
+            self.errors |= error::OVERFLOW;
+            if FAULT == fault::OVERFLOW_DROPS_OLDEST {
+                self.fifo.pop();
+                self.fifo.push(byte);
+            }
+        }
+    }
+
+    /// A checksum as the settings of now begin it.
+    fn frame_checksum(&self) -> Checksum {
+        let mut mode = self.registers[setting::CHANNEL_REDUNDANCY];
+        if FAULT == fault::CRC3309_BEFORE_CRC8 && mode & redundancy::CRC_3309 != 0 {
+            mode &= !redundancy::CRC_8;
+        }
+        Checksum::begin(mode, self.registers[setting::CRC_PRESET_LOW], self.registers[setting::CRC_PRESET_HIGH])
+    }
+
+    // ---- Clocks ------------------------------------------------------------------------------------------------------------------------
+
+    /// A start event of the timer.
+    fn start_timer(&mut self) {
+        let reload = self.registers[setting::TIMER_RELOAD];
+        let prescaler = self.registers[setting::TIMER_CLOCK] & 0x1F;
+        self.timer = if reload == 0 || prescaler > 21 {
+            Timer { value: 0, run: None }
+        } else {
+            Timer { value: reload, run: Some(Run { prescaler, phase: 0 }) }
+        };
+    }
+
+    fn advance_timer(&mut self, clocks: u32) {
+        let Some(run) = &mut self.timer.run else { return };
+        let phase = run.phase + clocks;
+        let steps = phase >> run.prescaler;
+        let value = u32::from(self.timer.value);
+        run.phase = phase & ((1 << run.prescaler) - 1);
+        if steps < value {
+            self.timer.value = (value - steps) as u8;
+            return;
+        }
+        // The value has come to its end, at least once: what remains of the steps runs through the reload value.
+        self.requests |= request::TIMER;
+        let restarts = self.registers[setting::TIMER_CLOCK] & 0x20 != 0;
+        let reload = u32::from(self.registers[setting::TIMER_RELOAD]);
+        if restarts && reload != 0 {
+            self.timer.value = (reload - (steps - value) % reload) as u8;
+        } else {
+            self.timer = Timer { value: 0, run: None };
+        }
+    }
+
+    fn advance_programming(&mut self, mut clocks: u32) {
+        while let Command::WriteE2(Writing::Programming { next, latched, left }) = self.command {
+            if clocks < left {
+                self.command = Command::WriteE2(Writing::Programming { next, latched, left: left - clocks });
+                return;
+            }
+            clocks -= left;
+            // `latched` is at most 16 and all in one block, so only the end of the memory can be the end of the batch and 000h at once.
+            let end = if next == 0 { EEPROM_SIZE } else { usize::from(next) };
+            let count = usize::from(latched);
+            self.eeprom[end - count..end].copy_from_slice(&self.latch[..count]);
+            self.command = Command::WriteE2(Writing::Ready { next });
+            if self.fifo.held() == 0 || FAULT == fault::TX_REQUEST_AT_EVERY_PROGRAMMING {
+                self.requests |= request::TX;
+            }
+            self.work();
+        }
+    }
+
+    // ---- Commands ----------------------------------------------------------------------------------------------------------------------
+
+    /// The command ends by itself.
+    fn end(&mut self) {
+        self.command = Command::Idle;
+        self.requests |= request::IDLE;
+    }
+
+    /// The active command does what it can with the bytes that wait.
+    fn work(&mut self) {
+        let held = self.fifo.held();
+        match self.command {
+            Command::WriteE2(Writing::Unaddressed) if held >= 2 => {
+                let next = self.fifo.pop_address();
+                self.command = Command::WriteE2(Writing::Ready { next });
+                self.write_block(next);
+            }
+            Command::WriteE2(Writing::Ready { next }) => self.write_block(next),
+            Command::ReadE2 if held >= 3 => self.read_block(),
+            Command::LoadConfig if held >= 2 => {
+                let address = self.fifo.pop_address();
+                let last = if FAULT == fault::LOAD_CONFIG_FROM_061 { 0x061 } else { 0x060 };
+                if (0x010..=last).contains(&address) {
+                    self.load_registers(usize::from(address));
+                } else {
+                    self.errors |= error::ACCESS;
+                }
+                self.end();
+            }
+            Command::LoadKeyE2 if held >= 2 => {
+                let address = usize::from(self.fifo.pop_address());
+                let last = if FAULT == fault::KEY_FROM_1F5 { 0x1F5 } else { 0x1F4 };
+                let key = if address <= last {
+                    let mut stored = [0; 12];
+                    for (place, byte) in stored.iter_mut().enumerate() {
+                        *byte = self.eeprom[(address + place) % EEPROM_SIZE];
+                    }
+                    key_of(&stored)
+                } else {
+                    None
+                };
+                self.load_key(key);
+            }
+            Command::LoadKey if held >= 12 => {
+                let mut stored = [0; 12];
+                stored.fill_with(|| self.fifo.pop().unwrap_or(0));
+                self.load_key(key_of(&stored));
+            }
+            Command::CalcCrc if held > 0 => {
+                while let Some(byte) = self.fifo.pop() {
+                    self.checksum.add(byte);
+                }
+                self.requests |= request::TX;
+            }
+            _ => {}
+        }
+    }
+
+    /// WriteE2 at an address: latches what waits, up to the end of the block, and begins to program it.
+    fn write_block(&mut self, next: u16) {
+        if self.fifo.held() == 0 {
+            return;
+        }
+        if next < 0x010 && FAULT != fault::WRITE_RUNS_ON_TO_BLOCK_0 {
+            self.errors |= error::ACCESS;
+            self.end();
+            return;
+        }
+        let room = 16 - (next % 16) as u8;
+        let latched = room.min(self.fifo.held());
+        for byte in &mut self.latch[..usize::from(latched)] {
+            *byte = self.fifo.pop().unwrap_or(0);
+        }
+        let next = (next + u16::from(latched)) % EEPROM_SIZE as u16;
+        let left = if FAULT == fault::PROGRAMMING_ONE_CLOCK_SHORT { PROGRAMMING_CLOCKS - 1 } else { PROGRAMMING_CLOCKS };
+        self.command = Command::WriteE2(Writing::Programming { next, latched, left });
+    }
+
+    /// ReadE2 with its three arguments held.
+    fn read_block(&mut self) {
+        let from = usize::from(self.fifo.pop_address());
+        let count = usize::from(self.fifo.pop().unwrap_or(0));
+        let limit = if FAULT == fault::READ_E2_OF_080 { 0x081 } else { 0x080 };
+        if count != 0 && from + count > limit {
+            self.errors |= error::ACCESS;
+        } else if count != 0 {
+            for address in from..from + count {
+                self.offer(self.eeprom[address]);
+            }
+        }
+        self.end();
+    }
+
+    /// Registers 10h-2Fh from 32 bytes of the EEPROM, Page positions skipped.
+    fn load_registers(&mut self, from: usize) {
+        for (place, register) in self.registers.iter_mut().enumerate() {
+            if place % 8 != 0 {
+                *register = self.eeprom[from + place];
+            }
+        }
+    }
+
+    /// A key command ends: with a key, or with KeyErr and none.
+    fn load_key(&mut self, key: Option<[u8; 6]>) {
+        if key.is_none() {
+            self.errors |= error::KEY;
+        } else if FAULT == fault::GOOD_KEY_CLEARS_KEY_ERROR {
+            self.errors &= !error::KEY;
+        }
+        self.key = key;
+        self.end();
+    }
+}
+
+/// InterruptEn or InterruptRq after a write: bit 7 set sets the marked bits, else they are cleared.
+#[inline]
+fn marked(old: u8, byte: u8) -> u8 {
+    let marks = byte & request::ALL;
+    if byte & 0x80 != 0 {
+        old | marks
+    } else {
+        old & !marks
+    }
+}

@@ -1,0 +1,261 @@
+//! The library raced with the plain Rust chip: nanoseconds per call, in turn in one run, and their ratios, as a table in Markdown.
+//!
+//! The plain chip runs twice: as it is, where its types rule most malformed states out and nothing is judged, and with refusal 7 judged at each
+//! call, as document 01 asks of a chip that a host hands over as memory. All three make the same calls, each through a function that is not
+//! inlined into the loop, on a chip that stays where it lies. A figure is the least of many rounds, since a busy machine only adds.
+
+use crate::chip_memory::{Memory, SIZE};
+use crate::library as lib;
+use crate::plain::{Chip, Refusal};
+use std::hint::black_box;
+use std::time::Instant;
+
+const ROUNDS: usize = 300;
+
+/// The plain chip that judges its state at each call.
+struct Judged(Chip);
+
+/// The events, answered with one number.
+trait Bench {
+    fn start(&mut self, image: &[u8]) -> u32;
+    fn read(&mut self, address: u8) -> u32;
+    fn write(&mut self, address: u8, byte: u8) -> u32;
+    fn advance(&mut self, clocks: u32) -> u32;
+    fn take(&mut self, buffer: &mut [u8]) -> u32;
+    fn deliver(&mut self, bytes: &[u8], parities: &[u8]) -> u32;
+}
+
+impl Bench for Memory {
+    // Safety, of all six: the chip and the slices are lent for the call alone, each with its own length.
+    fn start(&mut self, image: &[u8]) -> u32 {
+        unsafe { lib::mfrc531_start(self.as_mut_ptr(), image.as_ptr(), image.len()) }
+    }
+    fn read(&mut self, address: u8) -> u32 {
+        unsafe { lib::mfrc531_read(self.as_mut_ptr(), address) }
+    }
+    fn write(&mut self, address: u8, byte: u8) -> u32 {
+        unsafe { lib::mfrc531_write(self.as_mut_ptr(), address, byte) }
+    }
+    fn advance(&mut self, clocks: u32) -> u32 {
+        unsafe { lib::mfrc531_advance(self.as_mut_ptr(), clocks) }
+    }
+    fn take(&mut self, buffer: &mut [u8]) -> u32 {
+        unsafe { lib::mfrc531_take(self.as_mut_ptr(), buffer.as_mut_ptr(), buffer.len()) }
+    }
+    fn deliver(&mut self, bytes: &[u8], parities: &[u8]) -> u32 {
+        unsafe { lib::mfrc531_deliver(self.as_mut_ptr(), bytes.as_ptr(), bytes.len(), parities.as_ptr(), parities.len(), 0) }
+    }
+}
+
+fn number(answer: Result<u32, Refusal>) -> u32 {
+    answer.unwrap_or_else(|refusal| refusal as u32)
+}
+
+impl Bench for Chip {
+    #[inline(never)]
+    fn start(&mut self, image: &[u8]) -> u32 {
+        number(Chip::start(self, image).map(|()| 0))
+    }
+    #[inline(never)]
+    fn read(&mut self, address: u8) -> u32 {
+        number(Chip::read(self, address).map(|byte| u32::from(byte) << 8))
+    }
+    #[inline(never)]
+    fn write(&mut self, address: u8, byte: u8) -> u32 {
+        number(Chip::write(self, address, byte).map(|()| 0))
+    }
+    #[inline(never)]
+    fn advance(&mut self, clocks: u32) -> u32 {
+        number(Chip::advance(self, clocks).map(|()| 0))
+    }
+    #[inline(never)]
+    fn take(&mut self, buffer: &mut [u8]) -> u32 {
+        number(Chip::take(self, buffer).map(|taken| u32::from(taken.count) << 8 | u32::from(taken.last_bits) << 16))
+    }
+    #[inline(never)]
+    fn deliver(&mut self, bytes: &[u8], parities: &[u8]) -> u32 {
+        number(Chip::deliver(self, bytes, parities, 0).map(|()| 0))
+    }
+}
+
+impl Judged {
+    fn judged(&mut self, event: impl FnOnce(&mut Chip) -> u32) -> u32 {
+        if self.0.well_formed() {
+            event(&mut self.0)
+        } else {
+            Refusal::ChipMalformed as u32
+        }
+    }
+}
+
+impl Bench for Judged {
+    #[inline(never)]
+    fn start(&mut self, image: &[u8]) -> u32 {
+        number(self.0.start(image).map(|()| 0))
+    }
+    #[inline(never)]
+    fn read(&mut self, address: u8) -> u32 {
+        self.judged(|chip| number(chip.read(address).map(|byte| u32::from(byte) << 8)))
+    }
+    #[inline(never)]
+    fn write(&mut self, address: u8, byte: u8) -> u32 {
+        self.judged(|chip| number(chip.write(address, byte).map(|()| 0)))
+    }
+    #[inline(never)]
+    fn advance(&mut self, clocks: u32) -> u32 {
+        self.judged(|chip| number(chip.advance(clocks).map(|()| 0)))
+    }
+    #[inline(never)]
+    fn take(&mut self, buffer: &mut [u8]) -> u32 {
+        self.judged(|chip| number(chip.take(buffer).map(|taken| u32::from(taken.count) << 8 | u32::from(taken.last_bits) << 16)))
+    }
+    #[inline(never)]
+    fn deliver(&mut self, bytes: &[u8], parities: &[u8]) -> u32 {
+        self.judged(|chip| number(chip.deliver(bytes, parities, 0).map(|()| 0)))
+    }
+}
+
+const COMMAND: u8 = 0x01;
+const FIFO_DATA: u8 = 0x02;
+const PRIMARY_STATUS: u8 = 0x03;
+const FIFO_LENGTH: u8 = 0x04;
+const INTERRUPT_RQ: u8 = 0x07;
+const CONTROL: u8 = 0x09;
+const CHANNEL_REDUNDANCY: u8 = 0x22;
+
+/// One round of calls; answers a sum of all answers, so that none is left out and both chips can be compared.
+type Round<B> = fn(&mut B) -> u64;
+
+fn status_poll<B: Bench>(chip: &mut B) -> u64 {
+    (0..1000).map(|_| u64::from(chip.read(black_box(PRIMARY_STATUS)))).sum()
+}
+
+fn register_reads<B: Bench>(chip: &mut B) -> u64 {
+    (0..1000u32).map(|i| u64::from(chip.read(black_box((0x11 + i % 7) as u8)))).sum()
+}
+
+fn register_writes<B: Bench>(chip: &mut B) -> u64 {
+    (0..1000u32).map(|i| u64::from(chip.write(black_box((0x11 + i % 7) as u8), i as u8))).sum()
+}
+
+fn fifo_pairs<B: Bench>(chip: &mut B) -> u64 {
+    (0..500u32).map(|i| u64::from(chip.write(black_box(FIFO_DATA), i as u8)) + u64::from(chip.read(black_box(FIFO_DATA)))).sum()
+}
+
+/// What a driver does for a command: write its code and arguments, poll, read the requests and the answer, clear the requests.
+fn mix<B: Bench>(chip: &mut B) -> u64 {
+    let mut sum = 0;
+    for i in 0..50u32 {
+        sum += u64::from(chip.write(black_box(INTERRUPT_RQ), 0x7F));
+        sum += u64::from(chip.write(COMMAND, 0x12));
+        for k in 0..4 {
+            sum += u64::from(chip.write(FIFO_DATA, (i + k) as u8));
+        }
+        for _ in 0..6 {
+            sum += u64::from(chip.read(PRIMARY_STATUS)) + u64::from(chip.read(FIFO_LENGTH));
+        }
+        sum += u64::from(chip.read(0x0D)) + u64::from(chip.read(0x0E));
+    }
+    sum
+}
+
+fn crc_bytes<B: Bench>(chip: &mut B) -> u64 {
+    (0..1000u32).map(|i| u64::from(chip.write(black_box(FIFO_DATA), i as u8))).sum()
+}
+
+fn advances<B: Bench>(chip: &mut B) -> u64 {
+    (0..20).map(|_| u64::from(chip.advance(black_box(1000)))).sum()
+}
+
+fn single_clocks<B: Bench>(chip: &mut B) -> u64 {
+    (0..1000).map(|_| u64::from(chip.advance(black_box(1)))).sum()
+}
+
+fn exchanges<B: Bench>(chip: &mut B) -> u64 {
+    let mut buffer = [0; 66];
+    let mut sum = 0;
+    for _ in 0..50 {
+        chip.write(FIFO_DATA, 0x12);
+        chip.write(FIFO_DATA, 0x34);
+        chip.write(COMMAND, 0x1E);
+        sum += u64::from(chip.take(black_box(&mut buffer)));
+        sum += u64::from(chip.deliver(black_box(&[0x12, 0x34, 0x26, 0xCF]), &[1, 0, 0, 1]));
+        chip.write(CONTROL, 0x01);
+    }
+    sum + buffer.iter().map(|&byte| u64::from(byte)).sum::<u64>()
+}
+
+fn starts<B: Bench>(chip: &mut B) -> u64 {
+    let image = black_box([7; 512]);
+    (0..100).map(|_| u64::from(chip.start(&image))).sum()
+}
+
+struct Line {
+    what: &'static str,
+    calls: f64,
+    prepare: &'static [(u8, u8)],
+    library: Round<Memory>,
+    plain: Round<Chip>,
+    judged: Round<Judged>,
+}
+
+macro_rules! line {
+    ($what:literal, $calls:literal, $prepare:expr, $round:ident) => {
+        Line { what: $what, calls: $calls as f64, prepare: $prepare, library: $round::<Memory>, plain: $round::<Chip>, judged: $round::<Judged> }
+    };
+}
+
+/// What is raced; the numbers are how many calls, or clocks, a round has.
+const LINES: [Line; 10] = [
+    line!("mix of host accesses: a command, its bytes, polls, the answer", 1000, &[], mix),
+    line!("status poll (host read of PrimaryStatus)", 1000, &[], status_poll),
+    line!("host read of a stored register", 1000, &[], register_reads),
+    line!("host write of a stored register", 1000, &[], register_writes),
+    line!("host write and host read of FIFOData, each", 1000, &[], fifo_pairs),
+    line!("CalcCRC, per byte written", 1000, &[(COMMAND, 0x12)], crc_bytes),
+    line!("advance by 1,000 with the timer running, per call", 20, &[(0x2C, 255), (0x2A, 0x26), (CONTROL, 0x02)], advances),
+    line!("advance by 1, per call", 1000, &[(0x2C, 255), (0x2A, 0x26), (CONTROL, 0x02)], single_clocks),
+    line!("an exchange: four host writes, take and deliver, per exchange", 50, &[(CHANNEL_REDUNDANCY, 0x0F)], exchanges),
+    line!("start from an image", 100, &[], starts),
+];
+
+fn prepared<B: Bench>(chip: &mut B, prepare: &[(u8, u8)]) {
+    let mut image = [0; 512];
+    image[0x23] = 0x63;
+    image[0x24] = 0x63;
+    image[0x29] = 0x08;
+    assert_eq!(chip.start(&image), 0);
+    assert_eq!(chip.write(0x00, 0x00), 0);
+    for &(address, byte) in prepare {
+        assert_eq!(chip.write(address, byte), 0);
+    }
+}
+
+fn timed<B>(round: Round<B>, chip: &mut B, least: &mut f64) -> u64 {
+    let begin = Instant::now();
+    let sum = black_box(round(chip));
+    *least = least.min(begin.elapsed().as_nanos() as f64);
+    sum
+}
+
+pub fn run() {
+    println!("| What | library, ns | plain Rust, ns | ratio | plain Rust that judges 7, ns | ratio |");
+    println!("|---|---:|---:|---:|---:|---:|");
+    for line in &LINES {
+        let mut library = Memory([0; SIZE]);
+        let mut plain = Chip::started(&[0; 512]).unwrap();
+        let mut judged = Judged(plain.clone());
+        prepared(&mut library, line.prepare);
+        prepared(&mut plain, line.prepare);
+        prepared(&mut judged, line.prepare);
+        let mut least = [f64::MAX; 3];
+        for _ in 0..ROUNDS {
+            let a = timed(line.library, &mut library, &mut least[0]);
+            let b = timed(line.plain, &mut plain, &mut least[1]);
+            let c = timed(line.judged, &mut judged, &mut least[2]);
+            assert!(a == b && a == c, "{}: the chips answer differently", line.what);
+        }
+        let [a, b, c] = least.map(|nanoseconds| nanoseconds / line.calls);
+        println!("| {} | {a:.2} | {b:.2} | {:.2} | {c:.2} | {:.2} |", line.what, a / b, a / c);
+    }
+}

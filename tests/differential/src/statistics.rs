@@ -1,0 +1,150 @@
+//! What a run has reached, for its last line.
+
+use crate::call::Call;
+use crate::plain::{error, request, Command, FaultyChip, Writing};
+use std::fmt;
+
+const COMMANDS: [(u8, &str); 9] = [
+    (0x01, "WriteE2"),
+    (0x03, "ReadE2"),
+    (0x07, "LoadConfig"),
+    (0x0B, "LoadKeyE2"),
+    (0x12, "CalcCRC"),
+    (0x16, "Receive"),
+    (0x19, "LoadKey"),
+    (0x1A, "Transmit"),
+    (0x1E, "Transceive"),
+];
+
+/// What is looked at of a chip before and after a call.
+#[derive(Clone, Copy)]
+pub struct Glance {
+    command: Command,
+    errors: u8,
+    requests: u8,
+    runs: bool,
+    reads_command_at: u8,
+    pages: bool,
+}
+
+impl Glance {
+    pub fn of<const FAULT: u8>(chip: &FaultyChip<FAULT>) -> Self {
+        Glance {
+            command: chip.command,
+            errors: chip.errors,
+            requests: chip.requests,
+            runs: chip.timer.run.is_some(),
+            reads_command_at: chip.page & 7,
+            pages: chip.page & 0x80 != 0,
+        }
+    }
+
+    /// The code, if the call is a write to Command that counts.
+    fn written_command(&self, call: &Call) -> Option<u8> {
+        let Call::Write { address, byte } = call else { return None };
+        let is_command = if self.pages { address % 8 == 1 && self.reads_command_at == 0 } else { *address == 1 };
+        (is_command && !self.command.programs()).then_some(byte & 0x3F)
+    }
+}
+
+#[derive(Default)]
+pub struct Statistics {
+    pub calls: u64,
+    pub lists: u64,
+    events: [u64; 8],
+    refusals: [u64; 8],
+    /// Ends by itself, without and with an error flag set by it.
+    ended: [[u64; 2]; 9],
+    left: [u64; 9],
+    unknown: u64,
+    programmings: u64,
+    chained: u64,
+    timer_ends: u64,
+    timer_restarts: u64,
+    overflows: u64,
+    still_formed: u64,
+    malformed: u64,
+}
+
+impl Statistics {
+    pub fn count(&mut self, call: &Call, answer: u32, before: Option<Glance>, after: Option<Glance>) {
+        self.calls += 1;
+        let event = match call {
+            Call::Start { .. } => 0,
+            Call::Read { .. } => 1,
+            Call::Write { .. } => 2,
+            Call::Advance { .. } => 3,
+            Call::Take { .. } => 4,
+            Call::Deliver { .. } => 5,
+            Call::Corrupt { .. } => 6,
+            Call::Mend => 7,
+        };
+        self.events[event] += 1;
+        if let Call::Corrupt { .. } = call {
+            *(if after.is_some() { &mut self.still_formed } else { &mut self.malformed }) += 1;
+        }
+        if event >= 6 {
+            return;
+        }
+        let refusal = (answer & 0xFF) as usize;
+        if let Some(count) = self.refusals.get_mut(refusal) {
+            *count += 1;
+        }
+        let (Some(before), Some(after)) = (before, after) else { return };
+        if event == 0 || refusal != 0 {
+            return;
+        }
+        let place = |code: u8| COMMANDS.iter().position(|(known, _)| *known == code);
+        let errors = after.errors & !before.errors;
+        let running = match before.written_command(call) {
+            Some(code) => {
+                if let Some(place) = place(before.command.code()) {
+                    self.left[place] += 1;
+                }
+                self.unknown += u64::from(Command::of_code(code).is_none());
+                code
+            }
+            None => before.command.code(),
+        };
+        if after.command == Command::Idle {
+            if let Some(place) = place(running) {
+                let failure = match running {
+                    0x0B | 0x19 => error::KEY,
+                    _ => error::ACCESS | error::CRC | error::PARITY,
+                };
+                let failed = after.errors & failure != 0;
+                self.ended[place][usize::from(failed)] += 1;
+            }
+        }
+        self.overflows += u64::from(errors & error::OVERFLOW != 0);
+        if let (Call::Advance { clocks }, Command::WriteE2(Writing::Programming { left, .. })) = (call, before.command) {
+            if *clocks >= left {
+                self.programmings += 1;
+                self.chained += u64::from(after.command.programs());
+            }
+        }
+        if event == 3 && after.requests & !before.requests & request::TIMER != 0 {
+            self.timer_ends += 1;
+            self.timer_restarts += u64::from(after.runs);
+        }
+    }
+}
+
+impl fmt::Display for Statistics {
+    fn fmt(&self, out: &mut fmt::Formatter<'_>) -> fmt::Result {
+        let names = ["start", "read", "write", "advance", "take", "deliver", "corrupt", "mend"];
+        write!(out, "{} calls in {} lists:", self.calls, self.lists)?;
+        names.iter().zip(self.events).try_for_each(|(name, count)| write!(out, " {name} {count}"))?;
+        write!(out, "; refused with")?;
+        (1..8).try_for_each(|number| write!(out, " {number}: {}", self.refusals[number]))?;
+        write!(out, "; commands ended by themselves well/with an error/left for another:")?;
+        for (place, (_, name)) in COMMANDS.iter().enumerate() {
+            write!(out, " {name} {}/{}/{}", self.ended[place][0], self.ended[place][1], self.left[place])?;
+        }
+        write!(out, ", unknown codes {}", self.unknown)?;
+        write!(out, "; programmings ended {}, {} of them into the next", self.programmings, self.chained)?;
+        write!(out, "; timer ends {}, {} of them restarted", self.timer_ends, self.timer_restarts)?;
+        write!(out, "; overflows {}", self.overflows)?;
+        write!(out, "; corruptions: {} malformed, {} not", self.malformed, self.still_formed)
+    }
+}

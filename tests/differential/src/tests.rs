@@ -1,0 +1,518 @@
+//! The plain chip by itself: document 01's "Numbers to meet" and "Readings that look right and aren't", and some traps beside them.
+
+use crate::call::{Fill, Image};
+use crate::chip_memory::{difference, plain_of, store, Memory, SIZE};
+use crate::plain::{error, key_of, request, stored_nibble, Chip, Command, Refusal, Taken, Writing, PROGRAMMING_CLOCKS};
+use crate::random::Random;
+
+const COMMAND: u8 = 0x01;
+const FIFO_DATA: u8 = 0x02;
+const PRIMARY_STATUS: u8 = 0x03;
+const FIFO_LENGTH: u8 = 0x04;
+const SECONDARY_STATUS: u8 = 0x05;
+const INTERRUPT_RQ: u8 = 0x07;
+const CONTROL: u8 = 0x09;
+const ERROR_FLAG: u8 = 0x0A;
+const TIMER_VALUE: u8 = 0x0C;
+
+/// A started chip with paging off.
+fn chip_with(image: &[u8]) -> Chip {
+    let mut chip = Chip::started(image).unwrap();
+    chip.write(0x00, 0x00).unwrap();
+    chip
+}
+
+fn chip() -> Chip {
+    chip_with(&[0; 512])
+}
+
+impl Chip {
+    fn get(&mut self, register: u8) -> u8 {
+        self.read(register).unwrap()
+    }
+
+    fn set(&mut self, register: u8, byte: u8) {
+        self.write(register, byte).unwrap();
+    }
+
+    fn fill(&mut self, bytes: &[u8]) {
+        bytes.iter().for_each(|&byte| self.set(FIFO_DATA, byte));
+    }
+
+    /// A command and bytes after it.
+    fn run(&mut self, code: u8, bytes: &[u8]) {
+        self.set(COMMAND, code);
+        self.fill(bytes);
+    }
+
+    fn drain(&mut self) -> Vec<u8> {
+        (0..self.get(FIFO_LENGTH)).map(|_| self.get(FIFO_DATA)).collect()
+    }
+
+    /// More clocks than one call may have.
+    fn pass(&mut self, mut clocks: u32) {
+        while clocks > 0 {
+            let part = clocks.min(65_535);
+            self.advance(part).unwrap();
+            clocks -= part;
+        }
+    }
+}
+
+fn numbered_image() -> Vec<u8> {
+    (0..512).map(|place| (place % 251) as u8).collect()
+}
+
+// ---- Numbers to meet -------------------------------------------------------------------------------------------------------------------
+
+fn checksum(mode: u8, preset: u8, bytes: &[u8]) -> [u8; 2] {
+    let mut chip = chip();
+    chip.set(0x22, mode);
+    chip.set(0x23, preset);
+    chip.set(0x24, preset);
+    chip.run(0x12, bytes);
+    [chip.get(0x0D), chip.get(0x0E)]
+}
+
+#[test]
+fn checksums() {
+    assert_eq!(checksum(0x00, 0x63, &[0x00, 0x00]), [0xA0, 0x1E]);
+    assert_eq!(checksum(0x00, 0x63, &[0x12, 0x34]), [0x26, 0xCF]);
+    assert_eq!(checksum(0x20, 0xFF, &[0x00, 0x00, 0x00]), [0xCC, 0xC6]);
+    assert_eq!(checksum(0x00, 0x63, &[]), [0x63, 0x63]);
+    assert_eq!(checksum(0x20, 0xFF, &[]), [0x00, 0x00]);
+    // CRC8 begins with the low preset, has no high byte, and CRC3309 does nothing to it.
+    assert_eq!(checksum(0x10, 0xC7, &[]), [0xC7, 0x00]);
+    assert_eq!(checksum(0x30, 0xC7, &[1, 2, 3]), checksum(0x10, 0xC7, &[1, 2, 3]));
+}
+
+/// The polynomials bit by bit, from their names.
+#[test]
+fn checksum_tables() {
+    let mut random = Random::new(8);
+    for _ in 0..200 {
+        let length = random.below(20) as usize;
+        let bytes = random.bytes(length);
+        let preset = random.byte();
+        let mut wide = u16::from_le_bytes([preset, preset]);
+        let mut narrow = preset;
+        for bit in bytes.iter().flat_map(|byte| (0..8).map(move |place| byte >> place & 1)) {
+            // x^16 + x^12 + x^5 + 1 with x^15 in bit 0, and x^8 + x^4 + x^3 + x^2 + 1 with x^7 in bit 0.
+            let feedback = u16::from(bit) ^ wide & 1;
+            wide = (wide >> 1) ^ (feedback * (1 << 15 | 1 << (15 - 5) | 1 << (15 - 12)));
+            let feedback = bit ^ narrow & 1;
+            narrow = (narrow >> 1) ^ (feedback * (1 << 7 | 1 << (7 - 2) | 1 << (7 - 3) | 1 << (7 - 4)));
+        }
+        assert_eq!(checksum(0x00, preset, &bytes), wide.to_le_bytes());
+        assert_eq!(checksum(0x20, preset, &bytes), (!wide).to_le_bytes());
+        assert_eq!(checksum(0x10, preset, &bytes), [narrow, 0]);
+    }
+}
+
+const STORED: [u8; 12] = [0x5A, 0xF0, 0x5A, 0xE1, 0x5A, 0xD2, 0x5A, 0xC3, 0x5A, 0xB4, 0x5A, 0xA5];
+const KEY: [u8; 6] = [0xA0, 0xA1, 0xA2, 0xA3, 0xA4, 0xA5];
+
+#[test]
+fn keys() {
+    assert_eq!(key_of(&STORED), Some(KEY));
+    let stored: Vec<u8> = KEY.iter().flat_map(|byte| [stored_nibble(byte >> 4), stored_nibble(byte & 0x0F)]).collect();
+    assert_eq!(stored, STORED);
+    for place in 0..96 {
+        let mut wrong = STORED;
+        wrong[place / 8] ^= 1 << (place % 8);
+        assert_eq!(key_of(&wrong), None);
+    }
+
+    let mut chip = chip();
+    assert_eq!(chip.get(ERROR_FLAG), error::KEY);
+    chip.run(0x19, &STORED[..11]);
+    assert_eq!((chip.key, chip.get(ERROR_FLAG), chip.get(COMMAND)), (None, 0, 0x19));
+    chip.fill(&STORED[11..]);
+    assert_eq!((chip.key, chip.get(ERROR_FLAG), chip.get(COMMAND)), (Some(KEY), 0, 0));
+    assert_eq!(chip.get(INTERRUPT_RQ) & request::IDLE, request::IDLE);
+    chip.run(0x19, &[0; 12]);
+    assert_eq!((chip.key, chip.get(ERROR_FLAG), chip.get(FIFO_LENGTH)), (None, error::KEY, 0));
+}
+
+#[test]
+fn keys_from_memory() {
+    let mut image = [0; 512];
+    image[0x1F4..].copy_from_slice(&STORED);
+    image[..12].copy_from_slice(&STORED);
+    for (address, key) in [(0x1F4u16, Some(KEY)), (0x1F5, None), (0x1FF, None), (0x000, Some(KEY)), (0x200, Some(KEY)), (0x001, None)] {
+        let mut chip = chip_with(&image);
+        chip.run(0x0B, &address.to_le_bytes());
+        assert_eq!(chip.key, key, "{address:X}");
+        assert_eq!(chip.get(ERROR_FLAG), if key.is_none() { error::KEY } else { 0 });
+    }
+}
+
+#[test]
+fn overflow() {
+    let mut chip = chip();
+    chip.fill(&(0..64).collect::<Vec<u8>>());
+    assert_eq!(chip.get(ERROR_FLAG) & error::OVERFLOW, 0);
+    chip.set(FIFO_DATA, 99);
+    assert_eq!(chip.get(ERROR_FLAG) & error::OVERFLOW, error::OVERFLOW);
+    // Only a flush or a start clears it, and the oldest byte is still there.
+    chip.set(COMMAND, 0x00);
+    assert_eq!(chip.drain(), (0..64).collect::<Vec<u8>>());
+    assert_eq!(chip.get(ERROR_FLAG) & error::OVERFLOW, error::OVERFLOW);
+    assert_eq!(chip.get(FIFO_DATA), 0);
+    chip.set(CONTROL, 0x01);
+    assert_eq!(chip.get(ERROR_FLAG) & error::OVERFLOW, 0);
+}
+
+#[test]
+fn water_level() {
+    let mut chip = chip();
+    chip.set(0x29, 0xC8);
+    for held in 0..=64u8 {
+        let status = chip.get(PRIMARY_STATUS);
+        assert_eq!(status & 1 != 0, held <= 8, "LoAlert at {held}");
+        assert_eq!(status & 2 != 0, held >= 56, "HiAlert at {held}");
+        chip.set(FIFO_DATA, held);
+    }
+    // Requests come with the edge: HiAlert going up, LoAlert going down.
+    assert_eq!(chip.get(INTERRUPT_RQ), request::HI_ALERT);
+    chip.set(INTERRUPT_RQ, 0x3F);
+    for held in (1..=64u8).rev() {
+        chip.get(FIFO_DATA);
+        assert_eq!(chip.get(INTERRUPT_RQ), if held <= 9 { request::LO_ALERT } else { 0 });
+    }
+}
+
+#[test]
+fn load_config() {
+    for (address, works) in [(0x060u16, true), (0x061, false), (0x010, true), (0x00F, false), (0x070, false), (0x260, true)] {
+        let image = numbered_image();
+        let mut chip = chip_with(&image);
+        let before = chip.registers;
+        chip.run(0x07, &address.to_le_bytes());
+        assert_eq!(chip.get(ERROR_FLAG) & error::ACCESS != 0, !works, "{address:X}");
+        assert_eq!((chip.get(COMMAND), chip.get(INTERRUPT_RQ) & request::IDLE), (0, request::IDLE));
+        for place in 0..32 {
+            let loaded = works && place % 8 != 0;
+            let expected = if loaded { image[usize::from(address % 512) + place] } else { before[place] };
+            assert_eq!(chip.registers[place], expected);
+        }
+    }
+}
+
+/// LoadConfig and a start load anything.
+#[test]
+fn load_config_judges_nothing() {
+    let mut image = [0xFF; 512];
+    image[0x60..0x80].fill(0x18);
+    let mut chip = chip_with(&image);
+    assert_eq!(chip.get(0x2A), 0xFF);
+    chip.run(0x07, &[0x60, 0]);
+    assert_eq!((chip.get(0x2A), chip.get(ERROR_FLAG)), (0x18, error::KEY));
+}
+
+#[test]
+fn read_e2() {
+    let image = numbered_image();
+    for (address, count, works) in
+        [(0x07Fu16, 1u8, true), (0x07F, 2, false), (0x080, 1, false), (0x080, 0, true), (0x1FF, 0, true), (0, 64, true)]
+    {
+        let mut chip = chip_with(&image);
+        let [low, high] = address.to_le_bytes();
+        chip.run(0x03, &[low, high, count]);
+        assert_eq!(chip.get(ERROR_FLAG) & error::ACCESS != 0, !works);
+        let from = usize::from(address);
+        let expected = if works { image[from..from + usize::from(count)].to_vec() } else { vec![] };
+        assert_eq!(chip.drain(), expected);
+        assert_eq!(chip.get(INTERRUPT_RQ) & request::IDLE, request::IDLE);
+    }
+    // More than fits, behind a byte that waits.
+    let mut chip = chip_with(&image);
+    chip.fill(&[0, 0, 128, 0xEE]);
+    chip.set(COMMAND, 0x03);
+    assert_eq!(chip.get(ERROR_FLAG) & error::OVERFLOW, error::OVERFLOW);
+    assert_eq!(chip.drain(), [&[0xEE][..], &image[..63]].concat());
+}
+
+#[test]
+fn timer() {
+    let mut chip = chip();
+    chip.set(0x2A, 1);
+    chip.set(0x2C, 3);
+    chip.set(CONTROL, 0x02);
+    chip.advance(5).unwrap();
+    assert_eq!((chip.get(INTERRUPT_RQ), chip.get(TIMER_VALUE), chip.get(SECONDARY_STATUS)), (0, 1, 0xE0));
+    chip.advance(1).unwrap();
+    assert_eq!((chip.get(INTERRUPT_RQ), chip.get(TIMER_VALUE), chip.get(SECONDARY_STATUS)), (request::TIMER, 0, 0x60));
+}
+
+/// A new TPreScaler waits for the next start; a new TimerReload is used by the next restart.
+#[test]
+fn running_timer_keeps_its_prescaler() {
+    let mut chip = chip();
+    chip.set(0x2A, 1);
+    chip.set(0x2C, 3);
+    chip.set(CONTROL, 0x02);
+    chip.set(0x2A, 0x20);
+    chip.set(0x2C, 7);
+    chip.advance(5).unwrap();
+    assert_eq!(chip.get(INTERRUPT_RQ), 0);
+    chip.advance(1).unwrap();
+    assert_eq!((chip.get(INTERRUPT_RQ), chip.get(TIMER_VALUE)), (request::TIMER, 7));
+    chip.advance(2).unwrap();
+    assert_eq!(chip.get(TIMER_VALUE), 6);
+}
+
+#[test]
+fn timer_stops() {
+    for (clock, reload, runs) in [(21, 1, true), (22, 1, false), (0, 0, false), (0x35, 1, true)] {
+        let mut chip = chip();
+        chip.set(0x2A, clock);
+        chip.set(0x2C, reload);
+        chip.set(CONTROL, 0x07);
+        assert_eq!(chip.get(SECONDARY_STATUS) & 0x80 != 0, runs);
+        if runs {
+            chip.pass((1 << 21) - 1);
+            assert_eq!(chip.get(INTERRUPT_RQ), 0);
+            chip.advance(1).unwrap();
+            assert_eq!(chip.get(INTERRUPT_RQ), request::TIMER);
+        }
+    }
+    // A stop keeps the value.
+    let mut chip = chip();
+    chip.set(0x2C, 9);
+    chip.set(CONTROL, 0x02);
+    chip.advance(4).unwrap();
+    chip.set(CONTROL, 0x04);
+    chip.advance(100).unwrap();
+    assert_eq!((chip.get(TIMER_VALUE), chip.get(INTERRUPT_RQ)), (5, 0));
+}
+
+#[test]
+fn five_bytes_at_16c() {
+    let mut chip = chip();
+    chip.run(0x01, &[0x6C, 0x01, 1, 2, 3, 4, 5]);
+    let mut clocks = 0;
+    let mut programmings = 0;
+    while chip.get(SECONDARY_STATUS) & 0x40 == 0 {
+        let before = chip.eeprom;
+        chip.advance(1).unwrap();
+        clocks += 1;
+        programmings += u32::from(chip.eeprom != before);
+        assert_eq!(chip.get(INTERRUPT_RQ) & request::TX != 0, clocks == 3 * PROGRAMMING_CLOCKS);
+    }
+    assert_eq!((clocks, programmings), (235_944, 3));
+    assert_eq!(chip.eeprom[0x16B..0x172], [0, 1, 2, 3, 4, 5, 0]);
+    assert_eq!(chip.command, Command::WriteE2(Writing::Ready { next: 0x171 }));
+}
+
+// ---- Readings that look right and aren't, and traps ------------------------------------------------------------------------------------
+
+#[test]
+fn write_meets_block_0_after_the_end() {
+    let mut chip = chip();
+    chip.run(0x01, &[0xFF, 0x01, 0xAA, 0xBB]);
+    chip.pass(PROGRAMMING_CLOCKS);
+    assert_eq!((chip.eeprom[0x1FF], chip.eeprom[0]), (0xAA, 0));
+    assert_eq!((chip.get(ERROR_FLAG) & error::ACCESS, chip.get(COMMAND)), (error::ACCESS, 0));
+    assert_eq!(chip.get(INTERRUPT_RQ) & (request::TX | request::IDLE), request::IDLE);
+    assert_eq!(chip.drain(), [0xBB]);
+
+    // With no byte waiting it stays, and the next byte meets block 0.
+    chip.run(0x01, &[0xFF, 0x01, 0xCC]);
+    chip.pass(PROGRAMMING_CLOCKS);
+    assert_eq!((chip.get(COMMAND), chip.get(ERROR_FLAG) & error::ACCESS), (0x01, 0));
+    chip.set(FIFO_DATA, 1);
+    assert_eq!((chip.get(COMMAND), chip.get(ERROR_FLAG) & error::ACCESS), (0x00, error::ACCESS));
+    assert_eq!(chip.drain(), [1]);
+}
+
+#[test]
+fn block_0_is_met_with_the_first_byte_only() {
+    let mut chip = chip();
+    chip.run(0x01, &[0x0F, 0x02]);
+    assert_eq!((chip.get(COMMAND), chip.get(ERROR_FLAG) & error::ACCESS), (0x01, 0));
+    chip.set(FIFO_DATA, 7);
+    assert_eq!((chip.get(COMMAND), chip.get(ERROR_FLAG) & error::ACCESS), (0x00, error::ACCESS));
+    assert_eq!(chip.drain(), [7]);
+}
+
+#[test]
+fn command_writes_are_ignored_while_programming() {
+    let mut chip = chip();
+    chip.set(0x29, 63);
+    chip.run(0x01, &[0x20, 0x00, 1]);
+    chip.errors |= error::CRC | error::PARITY;
+    let (errors, requests) = (chip.errors, chip.requests);
+    for code in [0x00, 0x0B, 0x19, 0x3F, 0x01] {
+        chip.set(COMMAND, code);
+        assert_eq!((chip.get(COMMAND), chip.errors, chip.requests), (0x01, errors, requests));
+    }
+    chip.pass(PROGRAMMING_CLOCKS);
+    chip.set(COMMAND, 0x3F);
+    assert_eq!((chip.get(COMMAND), chip.errors), (0x00, error::KEY));
+    assert_eq!(chip.requests & request::IDLE, request::IDLE);
+}
+
+#[test]
+fn after_a_start() {
+    let mut chip = Chip::started(&numbered_image()).unwrap();
+    assert_eq!(chip.read(0x00), Ok(0x80));
+    assert_eq!((chip.get(PRIMARY_STATUS), chip.get(SECONDARY_STATUS), chip.get(INTERRUPT_RQ)), (0x05, 0x60, 0));
+    // Paging is on with page 0: host address 29h is Command.
+    chip.set(0x29, 0x1A);
+    assert_eq!(chip.get(0x01), 0x1A);
+    chip.set(0x00, 0x81);
+    assert_eq!((chip.get(ERROR_FLAG), chip.get(0x05), chip.get(0x06), chip.get(0x3F)), (0x40, 0, 0, 0));
+    chip.set(0x38, 0x85);
+    assert_eq!((chip.get(0x01), chip.get(0x3A), chip.get(0x08)), (0x29, 0x2A, 0x85));
+    assert_eq!(chip.registers[..8], [0, 0x11, 0x12, 0x13, 0x14, 0x15, 0x16, 0x17]);
+}
+
+#[test]
+fn a_byte_taken_at_once_raises_no_alert() {
+    let mut chip = chip();
+    chip.set(COMMAND, 0x12);
+    chip.set(FIFO_DATA, 1);
+    assert_eq!(chip.get(INTERRUPT_RQ), request::TX);
+}
+
+#[test]
+fn frames_out() {
+    let mut chip = chip();
+    chip.set(0x22, 0x04);
+    chip.set(0x23, 0x63);
+    chip.set(0x24, 0x63);
+    chip.run(0x1A, &[0x12, 0x34]);
+    let mut buffer = [0xEE; 66];
+    assert_eq!(chip.take(&mut buffer[..65]), Err(Refusal::BufferUnder66Bytes));
+    assert_eq!(chip.take(&mut buffer), Ok(Taken { count: 4, last_bits: 0 }));
+    assert_eq!(buffer[..5], [0x12, 0x34, 0x26, 0xCF, 0xEE]);
+    assert_eq!((chip.get(COMMAND), chip.get(INTERRUPT_RQ)), (0, request::TX | request::IDLE | request::LO_ALERT));
+    assert_eq!(chip.take(&mut buffer), Err(Refusal::NotSendingOrReceiving));
+    // With last bits there is no CRC; Transceive goes on to receive, and 0Fh stands.
+    chip.set(INTERRUPT_RQ, 0x3F);
+    chip.set(0x0F, 0x07);
+    chip.run(0x1E, &[0x52]);
+    assert_eq!(chip.take(&mut buffer), Ok(Taken { count: 1, last_bits: 7 }));
+    assert_eq!((chip.get(COMMAND), chip.get(INTERRUPT_RQ), chip.get(0x0F)), (0x1E, request::TX | request::LO_ALERT, 7));
+    assert_eq!(chip.deliver(&[1], &[0], 0), Ok(()));
+    assert_eq!((chip.get(COMMAND), chip.drain()), (0, vec![1]));
+}
+
+#[test]
+fn frames_in() {
+    /// 22h, bytes, parities, last bits; error flags, bytes that pass.
+    type Case = (u8, &'static [u8], &'static [u8], u8, u8, &'static [u8]);
+    let cases: [Case; 10] = [
+        (0x08, &[0x12, 0x34, 0x26, 0xCF], &[0; 4], 0, 0, &[0x12, 0x34]),
+        (0x08, &[0x12, 0x34, 0x26, 0xCE], &[0; 4], 0, error::CRC, &[0x12, 0x34]),
+        (0x08, &[0x63, 0x63], &[0; 2], 0, 0, &[]),
+        (0x08, &[0x63], &[0], 0, error::CRC, &[0x63]),
+        (0x18, &[0x63], &[0], 0, 0, &[]),
+        (0x08, &[0x12, 0x34, 0x26, 0xCF], &[0; 4], 3, error::CRC, &[0x12, 0x34, 0x26, 0xCF]),
+        (0x03, &[0x01, 0x03], &[0, 1], 0, 0, &[0x01, 0x03]),
+        (0x03, &[0x01, 0x03], &[0, 0], 0, error::PARITY, &[0x01, 0x03]),
+        (0x03, &[0x01, 0x03], &[0, 0], 5, 0, &[0x01, 0x03]),
+        (0x01, &[0x01, 0x03], &[1, 0], 0, 0, &[0x01, 0x03]),
+    ];
+    for (mode, bytes, parities, last_bits, errors, passed) in cases {
+        let mut chip = chip();
+        chip.errors = 0;
+        chip.set(0x22, mode);
+        chip.set(0x23, 0x63);
+        chip.set(0x24, 0x63);
+        assert_eq!(chip.deliver(bytes, parities, last_bits), Err(Refusal::NotSendingOrReceiving));
+        chip.set(COMMAND, 0x16);
+        assert_eq!(chip.deliver(bytes, parities, last_bits), Ok(()));
+        assert_eq!((chip.get(ERROR_FLAG), chip.get(SECONDARY_STATUS) & 7), (errors, last_bits));
+        assert_eq!((chip.get(COMMAND), chip.get(INTERRUPT_RQ) & 0x0C), (0, request::RX | request::IDLE));
+        assert_eq!(chip.drain(), passed);
+    }
+}
+
+#[test]
+fn refusals() {
+    assert_eq!(Chip::started(&[0; 511]).err(), Some(Refusal::ImageNot512Bytes));
+    let mut chip = chip();
+    assert_eq!(chip.read(64), Err(Refusal::AddressAbove63));
+    assert_eq!(chip.write(64, 0), Err(Refusal::AddressAbove63));
+    assert_eq!(chip.advance(65_536), Err(Refusal::Over65535Clocks));
+    assert_eq!(chip.take(&mut [0; 65]), Err(Refusal::BufferUnder66Bytes));
+    for (bytes, parities, last_bits) in [(0, 0, 0), (65, 65, 0), (2, 1, 0), (1, 1, 8)] {
+        assert_eq!(chip.deliver(&vec![0; bytes], &vec![0; parities], last_bits), Err(Refusal::FrameMalformed));
+    }
+    assert_eq!(chip.deliver(&[0], &[2], 1), Err(Refusal::FrameMalformed));
+}
+
+// ---- The jump, and the memory ----------------------------------------------------------------------------------------------------------
+
+/// n clocks are n times one clock.
+#[test]
+fn clocks_one_by_one() {
+    let mut random = Random::new(13);
+    for round in 0..400 {
+        let mut chip = chip_with(&Image { fill: Fill::Keys, seed: round, length: 512 }.bytes());
+        chip.set(0x29, random.byte() & 0x0F);
+        chip.set(0x2A, random.of(&[0, 1, 2, 0x20, 0x21, 0x23]));
+        chip.set(0x2C, random.of(&[1, 2, 3, 7, 255]));
+        chip.set(CONTROL, 0x02);
+        let bytes = random.bytes(40);
+        let address = random.of(&[0x10, 0x1E, 0x1F0, 0x1E3]) as u16;
+        chip.run(0x01, &address.to_le_bytes());
+        chip.fill(&bytes);
+        chip.set(INTERRUPT_RQ, 0x3F);
+        chip.pass(random.below(u64::from(2 * PROGRAMMING_CLOCKS)) as u32);
+        if let Command::WriteE2(Writing::Programming { left, .. }) = &mut chip.command {
+            *left = 1 + *left % 50;
+        }
+        let mut single = chip.clone();
+        let clocks = random.below(100) as u32;
+        chip.advance(clocks).unwrap();
+        (0..clocks).for_each(|_| single.advance(1).unwrap());
+        let mut memory = Memory([0; SIZE]);
+        // SAFETY: the memory is a whole chip's, and only this reference is used.
+        store(&single, round as u8, unsafe { &mut *memory.as_mut_ptr() });
+        assert_eq!(difference(&chip, memory.chip(), memory.chip()), None);
+    }
+}
+
+/// Into memory and back.
+#[test]
+fn stored_and_read_back() {
+    let mut chip = chip_with(&numbered_image());
+    chip.run(0x01, &[0xF9, 0x01, 1, 2, 3, 4, 5, 6, 7, 8, 9]);
+    chip.pass(PROGRAMMING_CLOCKS + 5);
+    for position in [0, 63, 200, 255] {
+        let mut memory = Memory([0xFF; SIZE]);
+        // SAFETY: as above.
+        store(&chip, position, unsafe { &mut *memory.as_mut_ptr() });
+        let back: Chip = plain_of(memory.chip()).unwrap();
+        assert_eq!(difference(&back, memory.chip(), memory.chip()), None);
+        assert_eq!(back.fifo.bytes().collect::<Vec<_>>(), chip.fifo.bytes().collect::<Vec<_>>());
+        assert_eq!((back.command, back.eeprom), (chip.command, chip.eeprom));
+    }
+}
+
+// ---- The comparison --------------------------------------------------------------------------------------------------------------------
+
+/// The comparison can fail: each planted fault is noticed, and by random calls alone.
+#[test]
+fn planted_faults_are_noticed() {
+    let options = crate::Options { calls: 1_000_000, seed: 1, trace: false, random: true, replay: None, race: false, faults: Vec::new() };
+    for fault in 1..=crate::plain::fault::NAMES.len() as u8 {
+        assert!(crate::notice(fault, &options));
+    }
+}
+
+/// What is printed can be read again.
+#[test]
+fn printed_lists_can_be_read() {
+    let mut generator = crate::generate::Generator::new(Random::new(5));
+    let mut session = crate::session::Session::<0>::new(1);
+    for _ in 0..5_000 {
+        let call = generator.next(session.plain(), session.memory());
+        let list = crate::call::parse(&format!("{call} # remark")).unwrap();
+        assert_eq!(list.calls, std::slice::from_ref(&call));
+        assert_eq!(session.perform(&call).err(), None);
+    }
+}

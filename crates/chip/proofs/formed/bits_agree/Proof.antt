@@ -1,17 +1,23 @@
--- `chip::formed::bits_agree` meets its contract. Bit 0 of the errors is their remainder. Assumes nothing.
-use native.Mathlib.Nat.{div-one}
-use borrow.Author.Needs.{needs}
+-- `chip::formed::bits_agree` meets its contract, byte by byte. Assumes nothing.
+use native.Mathlib.Omega.{arith}
+use mathlib.Core.Bool.{and-assoc}
+use Rattle.chip.proofs.JudgeLaws.{interrupt-bits, error-bits, flag-bits}
 use Rattle.chip.proofs.formed.bits_agree.Statement.{statement}
 use Rattle.chip.proofs.formed.bits_agree.Tie as tie
 
-add-reserved : tie.Need-add-reserved
-add-reserved c = search needs
-
-add-reserved-2 : tie.Need-add-reserved-2
-add-reserved-2 c = search needs
-
 returns : tie.Need-returns
-returns c = rw div-one
+returns c =
+    let core = c .before .before .before .before .before .before .before .args .core in
+    -- What is known of the fields from ErrorFlag on.
+    let known = c .struct-known5 .given .1 .1 .1 .1 .1 .1 .1 .1 .1 in
+    simp (
+      interrupt-bits (core .interrupts .enables) (omega arith),
+      interrupt-bits (core .interrupts .requests) (omega arith),
+      error-bits (core .errors) (omega (arith, known .0)),
+      flag-bits (core .timer .running) (omega arith),
+      flag-bits (core .«key_loaded») (omega (arith, known .1 .1 .1 .1 .0)),
+      and-assoc,
+    )
 
 pub bits-agree-spec : {M : Type 1} → statement M
-bits-agree-spec = tie.close (tie.spec add-reserved add-reserved-2 returns)
+bits-agree-spec = tie.close (tie.spec returns)

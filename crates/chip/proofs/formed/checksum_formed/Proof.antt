@@ -1,13 +1,14 @@
--- `chip::formed::checksum_formed` meets its contract, by the mode. Assumes nothing.
-use borrow.Author.Tests.{eq-eqb, ne-eqb}
+-- `chip::formed::checksum_formed` meets its contract, by the mode's bit. Assumes nothing.
+use native.Mathlib.Omega.{arith}
+use Prim.Native.Nat.{_/_, _%_}
+use lib.Dec.{ltb}
+use Rattle.chip.proofs.JudgeLaws.{where-set}
 use Rattle.chip.proofs.formed.checksum_formed.Statement.{statement}
 use Rattle.chip.proofs.formed.checksum_formed.Tie as tie
 
 returns : tie.Need-returns
-returns c = simp (eq-eqb _ _ (c .before .if1 .taken))
-
-returns-2 : tie.Need-returns-2
-returns-2 c = simp (ne-eqb _ _ (c .if1 .left))
+returns c =
+    let k = c .before .before .args .checksum in where-set (k .mode / 16 % 2) (ltb (k .register) 0x100) (omega arith)
 
 pub checksum-formed-spec : {M : Type 1} → statement M
-checksum-formed-spec = tie.close (tie.spec returns returns-2)
+checksum-formed-spec = tie.close (tie.spec returns)

@@ -1,32 +1,29 @@
--- `chip::formed::timer_formed` meets its contract, test by test. Assumes nothing.
-use borrow.Author.Tests.{eq-eqb, ne-eqb, le-leb, lt-leb}
+-- `chip::formed::timer_formed` meets its contract, for a flag that is 0 or 1. Assumes nothing.
 use native.Mathlib.Omega.{arith}
-use mathlib.Core.Bool.{and-false}
-use Rattle.chip.proofs.TimerLaws.{clocks-fit}
+use Rattle.chip.proofs.JudgeLaws.{timer-judged}
 use borrow.Author.Needs.{needs}
 use Rattle.chip.proofs.formed.timer_formed.Statement.{statement}
 use Rattle.chip.proofs.formed.timer_formed.Tie as tie
 
+cast-kept : tie.Need-cast-kept
+cast-kept c = search needs
+
+cast-kept-2 : tie.Need-cast-kept-2
+cast-kept-2 c = search needs
+
+mul-kept : tie.Need-mul-kept
+mul-kept c = search needs
+
+cast-clocks : tie.Need-cast-clocks
+cast-clocks c = search needs
+
+shl-clocks : tie.Need-shl-clocks
+shl-clocks c = search needs
+
 returns : tie.Need-returns
-returns c = simp (ne-eqb _ _ (c .before .before .if1 .taken))
-
-returns-2 : tie.Need-returns-2
-returns-2 c =
-    let t = c .before .before .before .before .args .timer in
-    simp (eq-eqb _ _ (c .before .before .if1 .left), le-leb (t .value) 255 (omega arith), lt-leb _ _ (c .if2 .taken), and-false)
-
-cast-result : tie.Need-cast-result
-cast-result c = search needs
-
-shl-result : tie.Need-shl-result
-shl-result c = search needs
-
-returns-3 : tie.Need-returns-3
-returns-3 c =
-    let started = c .before .before .before .before .before in
-    let t = started .before .before .args .timer in
-    let small = c .before .before .before .if2 .left in
-    simp (eq-eqb _ _ (started .if1 .left), le-leb (t .value) 255 (omega arith), le-leb _ _ small, clocks-fit (t .prescaler) (omega arith))
+returns c flag =
+    let t = c .before .before .before .before .before .args .timer in timer-judged (t .running) (t .value) (t .prescaler) (t .phase) flag (omega arith)
 
 pub timer-formed-spec : {M : Type 1} → statement M
-timer-formed-spec = tie.close (tie.spec returns returns-2 cast-result shl-result returns-3)
+timer-formed-spec =
+    tie.close (tie.spec cast-kept cast-kept-2 mul-kept cast-clocks shl-clocks returns)

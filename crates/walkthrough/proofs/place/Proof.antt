@@ -1,9 +1,9 @@
--- `image::place` is safe and ends: its index goes up to the bytes' length. Assumes nothing.
+-- `place` is safe and ends: its index goes up to the bytes' length. Assumes nothing.
 use borrow.Author.Needs.{needs}
 use Prim.Native.Nat.{_-_}
 use lib.ListN.{length}
-use Rattle.walkthrough.proofs.image.place.Statement.{statement}
-use Rattle.walkthrough.proofs.image.place.Tie as tie
+use Rattle.walkthrough.proofs.place.Statement.{statement}
+use Rattle.walkthrough.proofs.place.Tie as tie
 
 abbrev Inv-loop : tie.InvT-loop
 Inv-loop image₀ at bytes i₀ image i = Unit {0}

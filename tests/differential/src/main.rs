@@ -10,6 +10,7 @@ mod plain;
 mod profile;
 mod race;
 mod random;
+mod registers;
 mod session;
 mod statistics;
 #[cfg(test)]

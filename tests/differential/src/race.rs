@@ -7,6 +7,7 @@
 use crate::chip_memory::{Memory, SIZE};
 use crate::library as lib;
 use crate::plain::{Chip, Refusal};
+use crate::registers::*;
 use std::hint::black_box;
 use std::time::Instant;
 
@@ -114,14 +115,6 @@ impl Bench for Judged {
         self.judged(|chip| number(chip.deliver(bytes, parities, 0).map(|()| 0)))
     }
 }
-
-const COMMAND: u8 = 0x01;
-const FIFO_DATA: u8 = 0x02;
-const PRIMARY_STATUS: u8 = 0x03;
-const FIFO_LENGTH: u8 = 0x04;
-const INTERRUPT_RQ: u8 = 0x07;
-const CONTROL: u8 = 0x09;
-const CHANNEL_REDUNDANCY: u8 = 0x22;
 
 /// One round of calls; answers a sum of all answers, so that none is left out and both chips can be compared.
 type Round<B> = fn(&mut B) -> u64;

@@ -4,16 +4,8 @@ use crate::call::{Fill, Image};
 use crate::chip_memory::{difference, plain_of, store, Memory, SIZE};
 use crate::plain::{error, key_of, request, stored_nibble, Chip, Command, Refusal, Taken, Writing, PROGRAMMING_CLOCKS};
 use crate::random::Random;
+use crate::registers::*;
 
-const COMMAND: u8 = 0x01;
-const FIFO_DATA: u8 = 0x02;
-const PRIMARY_STATUS: u8 = 0x03;
-const FIFO_LENGTH: u8 = 0x04;
-const SECONDARY_STATUS: u8 = 0x05;
-const INTERRUPT_RQ: u8 = 0x07;
-const CONTROL: u8 = 0x09;
-const ERROR_FLAG: u8 = 0x0A;
-const TIMER_VALUE: u8 = 0x0C;
 
 /// A started chip with paging off.
 fn chip_with(image: &[u8]) -> Chip {

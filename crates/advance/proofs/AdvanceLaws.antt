@@ -20,7 +20,7 @@ use Rattle.machine.proofs.WellFormed.Parts.{Good, good-formed, by-cond, either,
 use Rattle.chip.specs.View.{isSet, writingOf, commandOf, listed, flowAgrees, writingAgrees, bitsAgree, fieldsFormed}
 use Rattle.chip.specs.declared.Core.{Core}
 use Rattle.chip.specs.declared.Writing.{Writing}
-use Rattle.chip.proofs.FormedLaws.{others-have, few-latched}
+use Rattle.well_formed.proofs.FormedLaws.{others-have, few-latched}
 use Rattle.chip.proofs.KeepLaws.{own-fields}
 use Rattle.commands.proofs.WriteLaws.{write-agrees, next-below, code-writes, is-programming}
 

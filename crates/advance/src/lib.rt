@@ -10,13 +10,13 @@ ghost use Rattle.chip.specs.View.{viewOf, fieldsFormed};
 ghost use Rattle.chip.specs.Turns.{Keeps};
 use chip::Core;
 use chip::Writing;
-use chip::fifo::alerted;
-use chip::fifo::held;
-use chip::fifo::high;
-use chip::fifo::low;
-use chip::flags::raised_tx;
-use chip::memory::store_batch;
 use commands::write_e2::stepped;
+use fifo::alerted;
+use fifo::held;
+use fifo::high;
+use fifo::low;
+use flags::raised_tx;
+use memories::store_batch;
 
 // A programming ends: its bytes are stored, and the next byte goes behind them. TxIRq is set where no byte is held;
 // else WriteE2 goes on with those that are, which one step does.
@@ -83,7 +83,7 @@ pub fn clocked(
     ensures whole { λ r. ⌜ ((length (now (latch .exit)) ≡ length (now (latch .entry))) × (length (now (eeprom .exit)) ≡ length (now (eeprom .entry)))) ⌝ }
     ensures keeps { λ r. ⌜ Keeps core r ⌝ }
 {
-    let timed = chip::clocks::clocked(core, registers);
+    let timed = timer::clocked(core, registers);
     command_clocked(timed, slots, latch, eeprom)
 }
 

@@ -12,7 +12,6 @@ use Rattle.machine.proofs.WellFormed.Parts.{either, both, each}
 use Rattle.chip.specs.View.{isFlag, listed, flowAgrees, writingAgrees, bitsAgree, fieldsFormed}
 use Rattle.chip.specs.Turns.{Keeps}
 use Rattle.chip.specs.declared.Core.{Core}
-use Rattle.chip.proofs.RingLaws.{marked}
 
 -- "bits that always read 0 are 0": those of InterruptEn and InterruptRq, and those of ErrorFlag.
 abbrev pub requestBits : ℕ → Bool
@@ -20,6 +19,10 @@ requestBits x = ltb x 64
 
 abbrev pub errorBits : ℕ → Bool
 errorBits x = eqb (bit x 7 + (bit x 2 + bit x 0)) 0
+
+-- The bits of a mask are set in a number, where a test says so.
+abbrev pub marked : Bool → ℕ → ℕ → ℕ
+marked t mask x = cond t (bitOr x mask) x
 
 -- They stay 0 where a mask's bits are set that are none of them, and where only a mask's bits are kept.
 pub requests-or : (x mask : ℕ) → requestBits mask ≡ true → requestBits x ≡ true → requestBits (bitOr x mask) ≡ true

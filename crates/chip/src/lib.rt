@@ -2,13 +2,6 @@
 //
 // A flag is a byte that is 0 or 1. Names are the data sheet's. specs/View.antt says which machine a chip is.
 
-pub mod clocks;
-pub mod crc_unit;
-pub mod fifo;
-pub mod flags;
-pub mod formed;
-pub mod memory;
-
 // The FIFO's eight-bit read and write positions; slot = position mod 64, held count = their wrapped difference.
 #[repr(C)]
 pub struct Ring {

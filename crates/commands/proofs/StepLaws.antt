@@ -15,8 +15,8 @@ use Rattle.machine.proofs.WellFormed.Parts.{either}
 use Rattle.chip.specs.declared.Core.{Core}
 use Rattle.chip.specs.Turns.{Turns}
 use Rattle.chip.specs.View.{isSet, heldCount, writingOf, commandOf, viewOf}
-use Rattle.chip.proofs.FormedLaws.{others-have}
-use Rattle.chip.proofs.RingLaws.{ring-length}
+use Rattle.well_formed.proofs.FormedLaws.{others-have}
+use Rattle.fifo.proofs.RingLaws.{ring-length}
 
 -- A code that is none of the six takes no waiting byte. The shape of the premise is that of a `match`'s last arm.
 abbrev Others : ℕ → Type 0

@@ -19,7 +19,7 @@ use Rattle.chip.specs.View.{heldFrom, writingOf, commandOf, listed, flowAgrees,
 use Rattle.chip.specs.declared.Core.{Core}
 use Rattle.chip.specs.declared.Writing.{Writing}
 use Rattle.chip.proofs.KeepLaws.{own-fields, keep-command-idle}
-use Rattle.chip.proofs.RingLaws.{held-length}
+use Rattle.fifo.proofs.RingLaws.{held-length}
 
 -- The first k of the held bytes are k held bytes.
 pub held-taken : (slots : List ℕ) (p n k : ℕ) → k ≤ n → take k (heldFrom slots p n) ≡ heldFrom slots p k

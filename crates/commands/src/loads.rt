@@ -7,10 +7,10 @@ ghost use Rattle.machine.specs.Commands.{keyJudged, keyFrom, configuredFrom};
 ghost use Rattle.chip.specs.View.{viewOf};
 ghost use Rattle.chip.specs.Turns.{Keeps};
 use chip::Core;
-use chip::flags::with_access_err;
-use chip::flags::with_key_err;
-use chip::memory::load_registers;
-use chip::memory::stored_key;
+use flags::with_access_err;
+use flags::with_key_err;
+use memories::load_registers;
+use memories::stored_key;
 
 // Twelve bytes are judged: the key that they stand for, or KeyErr and an empty key.
 pub fn key_judged(core: Core, key: &mut [u8; 6], bytes: [u8; 12]) -> Core

@@ -12,8 +12,8 @@ ghost use Rattle.machine.specs.Commands.{readFrom};
 ghost use Rattle.chip.specs.View.{viewOf};
 ghost use Rattle.chip.specs.Turns.{TurnsSlots, Keeps};
 use chip::Core;
-use chip::fifo::offered;
-use chip::flags::with_access_err;
+use fifo::offered;
+use flags::with_access_err;
 
 // The first `count` bytes of a buffer are offered, or all where it has fewer.
 pub fn offered_bytes(core: Core, slots: &mut [u8; 64], bytes: &[u8], count: usize) -> Core

@@ -12,7 +12,7 @@ use crate::steps::load_key_e2;
 use crate::steps::read_e2;
 use crate::write_e2;
 use chip::Core;
-use chip::fifo::held;
+use fifo::held;
 
 // One step, by the code. Idle and the commands that send or receive take no waiting byte here.
 pub fn stepped(

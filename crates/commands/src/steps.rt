@@ -16,13 +16,12 @@ use crate::loads::key_from;
 use crate::loads::key_judged;
 use crate::offers::read_from;
 use chip::Core;
-use chip::crc_unit;
-use chip::fifo::argument;
-use chip::fifo::held;
-use chip::fifo::taken;
-use chip::flags::ended;
-use chip::flags::raised_tx;
-use chip::memory::held_key;
+use fifo::argument;
+use fifo::held;
+use fifo::taken;
+use flags::ended;
+use flags::raised_tx;
+use memories::held_key;
 
 // The address that the first two held bytes are, the low one first, mod 200h.
 pub fn address(core: Core, slots: &[u8; 64]) -> u16

@@ -14,11 +14,11 @@ ghost use Rattle.chip.specs.Turns.{Keeps};
 use crate::steps::address;
 use chip::Core;
 use chip::Writing;
-use chip::fifo::held;
-use chip::fifo::taken;
-use chip::flags::ended;
-use chip::flags::with_access_err;
-use chip::memory::latch_bytes;
+use fifo::held;
+use fifo::taken;
+use flags::ended;
+use flags::with_access_err;
+use memories::latch_bytes;
 
 // It waits for its address, two bytes.
 fn addressed(core: Core, slots: &[u8; 64]) -> Core

@@ -20,7 +20,7 @@ use Rattle.machine.specs.WellFormed.{Sized, latchedBytes}
 use Rattle.machine.proofs.WellFormed.Parts.{either}
 use Rattle.machine.proofs.WellFormed.Fifo.{no-bytes}
 use Rattle.chip.specs.View.{viewOf, heldFrom, heldCount, isSet, writingOf, commandOf}
-use Rattle.chip.proofs.FormedLaws.{others-have}
+use Rattle.well_formed.proofs.FormedLaws.{others-have}
 use Rattle.chip.specs.Meets.{Whole}
 use Rattle.chip.specs.declared.Writing.{Writing}
 use Rattle.chip.specs.declared.Chip.{Chip}

@@ -22,19 +22,19 @@ use crate::refusals::frame_waits;
 use crate::refusals::receives;
 use advance::advanced;
 use chip::Core;
-use chip::fifo::alerted;
-use chip::fifo::high;
-use chip::fifo::low;
-use chip::fifo::taken;
-use chip::formed::formed;
-use chip::memory::load_registers;
 use commands::settle::settled;
+use fifo::alerted;
+use fifo::high;
+use fifo::low;
+use fifo::taken;
 use frames::frame_into;
 use frames::receiving::received;
 use frames::sending::sent;
+use memories::load_registers;
 use registers::reading::mapped;
 use registers::reading::read;
 use registers::register_write;
+use well_formed::formed;
 
 // A start from an EEPROM image, whatever the chip was. Slots and latch are cleared too, so that the same image gives the same chip.
 pub fn start<'a, 'b>(

@@ -9,7 +9,7 @@ ghost use Rattle.machine.specs.Refusals.{allBits, frameFormed};
 ghost use Rattle.machine.specs.Frames.{sending, receiving};
 ghost use Rattle.chip.specs.View.{viewOf};
 use chip::Core;
-use chip::fifo::held;
+use fifo::held;
 
 // Every parity value is 0 or 1.
 fn all_bits(parities: &[u8]) -> bool

@@ -19,7 +19,7 @@ use Rattle.machine.specs.Fifo.{registerAt}
 use Rattle.machine.specs.Frames.{parityWrong, anyParityWrong, completeBytes, parityFails, crcWidth, crcValue, crcBytes, hasCrc, passed, sameBytes, crcFails, txLastBits, frameSent}
 use Rattle.chip.specs.declared.Ring.{Ring}
 use Rattle.chip.specs.View.{heldCount, heldFrom, heldOf}
-use Rattle.chip.proofs.RingLaws.{held-length, held-last}
+use Rattle.fifo.proofs.RingLaws.{held-length, held-last}
 
 -- The length of the first n of a list: n, or the list's where it is shorter.
 pub front-length : (n : ℕ) (l : List ℕ) → length (take n l) ≡ n - (n - length l)

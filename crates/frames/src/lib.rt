@@ -12,7 +12,7 @@ ghost use Rattle.machine.specs.Fifo.{registerAt};
 ghost use Rattle.machine.specs.Frames.{anyParityWrong, parityFails, crcFails, passed, crcBytes, frameSent};
 ghost use Rattle.chip.specs.View.{heldCount, heldFrom, viewOf};
 use chip::Core;
-use chip::fifo::held;
+use fifo::held;
 
 pub mod receiving;
 pub mod sending;

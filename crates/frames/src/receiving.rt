@@ -11,11 +11,11 @@ use crate::crc_fails;
 use crate::parity_fails;
 use crate::passed_length;
 use chip::Core;
-use chip::clocks::stopped_if;
-use chip::flags::ended;
-use chip::flags::raised_rx;
-use chip::flags::with_frame_errors;
 use commands::offers::offered_bytes;
+use flags::ended;
+use flags::raised_rx;
+use flags::with_frame_errors;
+use timer::stopped_if;
 
 // A delivery. Bits 2 and 3 of TimerControl stop the timer; CRCErr and ParityErr are set beside what they were.
 pub fn received(

@@ -3,10 +3,10 @@
 ghost use Rattle.machine.specs.Frames.{afterSending, sent as Frames·sent};
 ghost use Rattle.chip.specs.Turns.{Turns, TurnsBy, Keeps};
 use chip::Core;
-use chip::clocks::started_if;
-use chip::fifo::emptied;
-use chip::flags::ended;
-use chip::flags::raised_tx;
+use fifo::emptied;
+use flags::ended;
+use flags::raised_tx;
+use timer::started_if;
 
 // The frame is sent: a Transceive receives then, and every other command ends.
 fn after_sending(core: Core) -> Core

@@ -10,7 +10,7 @@ use Rattle.machine.specs.State as m
 use Rattle.machine.specs.State.{Machine, Command, withCommand, addressing, ready, programming}
 use Rattle.machine.specs.Commands.{programs, writingPrograms, clearedErrors, ended, commandStarted, commandWritten}
 use Rattle.machine.proofs.WellFormed.Parts.{both, each}
-use Rattle.chip.proofs.FormedLaws.{others-have}
+use Rattle.well_formed.proofs.FormedLaws.{others-have}
 use Rattle.chip.proofs.KeepLaws.{keep-command-idle}
 use Rattle.chip.specs.declared.Core.{Core}
 use Rattle.chip.specs.declared.Writing.{Writing}

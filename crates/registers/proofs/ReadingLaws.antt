@@ -15,7 +15,7 @@ use Rattle.machine.specs.Fifo.{registerAt}
 use Rattle.machine.specs.Commands.{codeOf}
 use Rattle.machine.specs.Registers.{interruptByte, errorByte, registerRead}
 use Rattle.chip.specs.View.{isSet, interruptsOf, errorsOf, listed, commandOf}
-use Rattle.chip.proofs.FlagLaws.{and-bit}
+use Rattle.flags.proofs.FlagLaws.{and-bit}
 use Rattle.chip.proofs.KeepLaws.{errorBits}
 
 -- The part that passes, where the other one fails.

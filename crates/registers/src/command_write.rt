@@ -9,10 +9,10 @@ ghost use Rattle.chip.specs.View.{commandOf, viewOf, listed, flowAgrees};
 ghost use Rattle.chip.specs.Turns.{Turns, TurnsBy, Keeps};
 use chip::Core;
 use chip::Writing;
-use chip::crc_unit::started;
-use chip::flags::cleared_errors;
-use chip::flags::ended;
-use chip::flags::with_key_err;
+use crc_unit::started;
+use flags::cleared_errors;
+use flags::ended;
+use flags::with_key_err;
 
 // A programming runs: WriteE2 is active and clocks are left.
 pub fn programs(core: Core) -> bool

@@ -4,10 +4,10 @@ ghost use Rattle.machine.specs.Fifo.{flushed as Fifo·flushed};
 ghost use Rattle.machine.specs.Registers.{controlWritten};
 ghost use Rattle.chip.specs.Turns.{Turns, TurnsBy, Keeps};
 use chip::Core;
-use chip::clocks::started_if;
-use chip::clocks::stopped_if;
-use chip::fifo::emptied;
-use chip::flags::with_fifo_ovfl;
+use fifo::emptied;
+use flags::with_fifo_ovfl;
+use timer::started_if;
+use timer::stopped_if;
 
 // FlushFIFO: no byte is held, and FIFOOvfl is cleared.
 fn flushed(core: Core, flag: bool) -> Core

@@ -7,10 +7,10 @@ ghost use Rattle.machine.specs.Registers.{IRq, Err, primaryStatus, secondarySta
 ghost use Rattle.chip.specs.View.{viewOf, fieldsFormed};
 use crate::command_write::programs;
 use chip::Core;
-use chip::fifo::first;
-use chip::fifo::held;
-use chip::fifo::high;
-use chip::fifo::low;
+use fifo::first;
+use fifo::held;
+use fifo::high;
+use fifo::low;
 
 // The register that an address is, by Page: UsePageSelect is bit 7, PageSelect bits 2-0.
 pub fn mapped(page: u8, address: u8) -> u8

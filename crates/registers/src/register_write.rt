@@ -8,10 +8,10 @@ ghost use Rattle.machine.specs.Registers.{registerWritten};
 ghost use Rattle.chip.specs.View.{viewOf};
 ghost use Rattle.chip.specs.Turns.{Turns, TurnsBy, Keeps};
 use chip::Core;
-use chip::fifo::offered;
-use chip::flags::enables_written;
-use chip::flags::page_written;
-use chip::flags::requests_written;
+use fifo::offered;
+use flags::enables_written;
+use flags::page_written;
+use flags::requests_written;
 
 // BitFraming is written.
 fn bit_framing_written(core: Core, v: u8) -> Core

@@ -8,7 +8,7 @@ use Rattle.machine.specs.Events.{commandClocked, clock}
 use Rattle.machine.proofs.WellFormed.Parts.{formed-good}
 use Rattle.machine.proofs.WellFormed.Timer.{ticked}
 use Rattle.chip.specs.View.{viewOf}
-use Rattle.chip.proofs.TimerLaws.{formed-fits}
+use Rattle.timer.proofs.TimerLaws.{formed-fits}
 use Rattle.advance.proofs.AdvanceLaws.{formed-by}
 use Rattle.advance.proofs.clocked.Statement.{statement}
 use Rattle.advance.proofs.clocked.Tie as tie

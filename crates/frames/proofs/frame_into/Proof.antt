@@ -3,7 +3,7 @@ use borrow.Author.Needs.{needs}
 use mathlib.Core.Path.{refl, sym, _∙_}
 use native.Mathlib.Omega.{arith}
 use Rattle.chip.specs.View.{viewOf}
-use Rattle.chip.proofs.RingLaws.{ring-length}
+use Rattle.fifo.proofs.RingLaws.{ring-length}
 use Rattle.frames.proofs.FrameLaws.{held-front, sent-unmarked, sent-part, sent-marked, sent-plain, sent-crc}
 use Rattle.frames.proofs.frame_into.Statement.{statement}
 use Rattle.frames.proofs.frame_into.Tie as tie

@@ -6,7 +6,7 @@ use native.Mathlib.Omega.{arith}
 use lib.ListN.{length}
 use Rattle.machine.specs.Memory.{bytesFrom}
 use Rattle.chip.specs.Turns.{Keeps}
-use Rattle.chip.proofs.CopyLaws.{bytes-length, bytes-at}
+use Rattle.memories.proofs.CopyLaws.{bytes-length, bytes-at}
 use Rattle.commands.proofs.OfferLaws.{OffersLeft, offer-turn, offer-done}
 use Rattle.commands.proofs.offers.offered_memory.Statement.{statement}
 use Rattle.commands.proofs.offers.offered_memory.Tie as tie

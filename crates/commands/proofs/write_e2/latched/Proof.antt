@@ -11,7 +11,7 @@ use Rattle.machine.specs.Memory.{roomInBlock, programmingClocks}
 use Rattle.machine.specs.Commands.{taken}
 use Rattle.machine.specs.Commands.{ended as Commands·ended}
 use Rattle.chip.specs.View.{heldFrom, viewOf}
-use Rattle.chip.proofs.RingLaws.{ring-length}
+use Rattle.fifo.proofs.RingLaws.{ring-length}
 use Rattle.commands.proofs.StepLaws.{too-few}
 use Rattle.commands.proofs.WriteLaws.{programming-agrees, code-writes, step-refused, step-latched, start}
 use Rattle.commands.proofs.write_e2.latched.Statement.{statement}

@@ -5,7 +5,7 @@ use Prim.Native.Nat.{ℕ, _+_, _-_, _%_, _≤_}
 use native.Mathlib.Omega.{arith}
 use lib.ListN.{length, take, set, getD, length-set}
 use lib.Seq.{take-all}
-use Rattle.chip.proofs.CopyLaws.{fill-turn}
+use Rattle.memories.proofs.CopyLaws.{fill-turn}
 use Rattle.events.proofs.fresh.store_image.Statement.{statement}
 use Rattle.events.proofs.fresh.store_image.Tie as tie
 

@@ -8,7 +8,7 @@ use Rattle.machine.specs.Refusals.{takeFrame}
 use Rattle.chip.specs.View.{view, viewOf}
 use Rattle.chip.specs.Meets.{assembled}
 use Rattle.chip.specs.declared.Chip.{Chip}
-use Rattle.chip.proofs.RingLaws.{ring-length}
+use Rattle.fifo.proofs.RingLaws.{ring-length}
 use Rattle.events.proofs.EventLaws.{take-turns, take-fills, take-answer}
 use Rattle.events.proofs.MeetLaws.{refused, malformed, judged, take-short, take-judged, own-fields-formed, few-held, accepted-here}
 use Rattle.events.proofs.TypeLaws.{known-bytes}

@@ -5,8 +5,8 @@ use mathlib.Core.Bool.{Bool, not}
 use Prim.Native.Nat.{ℕ}
 use lib.Dec.{eqb}
 use Rattle.chip.specs.View.{viewOf}
-use Rattle.chip.proofs.FormedLaws.{joined}
-use Rattle.chip.proofs.RingLaws.{ring-length}
+use Rattle.well_formed.proofs.FormedLaws.{joined}
+use Rattle.fifo.proofs.RingLaws.{ring-length}
 use Rattle.events.proofs.refusals.frame_waits.Statement.{statement}
 use Rattle.events.proofs.refusals.frame_waits.Tie as tie
 

@@ -5,7 +5,7 @@ use mathlib.Core.Path.{_≡_, sym, _∙_}
 use native.Mathlib.Omega.{arith}
 use Rattle.machine.specs.Registers.{registerRead}
 use Rattle.chip.specs.View.{viewOf, writingOf}
-use Rattle.chip.proofs.RingLaws.{ring-length}
+use Rattle.fifo.proofs.RingLaws.{ring-length}
 use borrow.Author.Tests.{ltb-true}
 use Rattle.chip.proofs.KeepLaws.{own-fields}
 use Rattle.registers.proofs.ReadingLaws.{code-of-listed, interrupt-byte, read-as}

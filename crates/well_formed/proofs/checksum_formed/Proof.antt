@@ -1,0 +1,14 @@
+-- `well_formed::checksum_formed` meets its contract, by the mode's bit. Assumes nothing.
+use native.Mathlib.Omega.{arith}
+use Prim.Native.Nat.{_/_, _%_}
+use lib.Dec.{ltb}
+use Rattle.well_formed.proofs.JudgeLaws.{where-set}
+use Rattle.well_formed.proofs.checksum_formed.Statement.{statement}
+use Rattle.well_formed.proofs.checksum_formed.Tie as tie
+
+returns : tie.Need-returns
+returns c =
+    let k = c .before .before .args .checksum in where-set (k .mode / 16 % 2) (ltb (k .register) 0x100) (omega arith)
+
+pub checksum-formed-spec : {M : Type 1} → statement M
+checksum-formed-spec = tie.close (tie.spec returns)

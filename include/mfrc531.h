@@ -50,12 +50,15 @@ static inline uint8_t mfrc531_last_bits_of(mfrc531_answer answer) { return (uint
 
 /* A chip's whole state. Begin with mfrc531_start, which takes any memory. Read it freely; what you write into it is judged by the next call. */
 typedef struct {
-    struct { uint8_t read, write; } ring;                               /* FIFO positions: slot = position % 64, held = write - read, wrapped */
-    struct { uint8_t running, value, prescaler; uint32_t phase; } timer; /* TRunning, TimerValue, and what is kept while the timer runs */
-    struct { uint16_t value; uint8_t mode; } checksum;                  /* the CRC register, and ChannelRedundancy as CalcCRC read it */
-    struct { uint8_t addressed; uint16_t next; uint8_t latched; uint32_t left; } writing; /* WriteE2: next address, latched bytes, clocks left */
-    struct { uint8_t enables, requests; } interrupts;                   /* InterruptEn and InterruptRq */
-    uint8_t page, command, sending, receiving, errors, control, rx_last_bits, bit_framing, key_loaded;
+    struct { uint32_t phase; uint16_t prescaler; uint8_t running, value; } timer; /* what is kept while the timer runs, TRunning, TimerValue */
+    struct { uint32_t left; uint16_t next; uint8_t addressed, latched; } writing; /* WriteE2: clocks left, next address, latched bytes */
+    uint16_t crc_register;                            /* the CRC register */
+    uint8_t crc_mode;                                 /* ChannelRedundancy as CalcCRC read it */
+    uint8_t page, control, rx_last_bits, bit_framing; /* Page, Control, RxLastBits, BitFraming */
+    uint8_t key_loaded;                               /* 1 where the key buffer holds a key */
+    struct { uint8_t read, write; } ring;             /* FIFO positions: slot = position % 64, held = write - read, wrapped */
+    struct { uint8_t enables, requests; } interrupts; /* InterruptEn and InterruptRq */
+    uint8_t errors, command, sending, receiving;      /* ErrorFlag, Command, and 1 where the command sends or receives */
 } mfrc531_core;
 
 typedef struct {
@@ -72,12 +75,12 @@ typedef struct {
 #else
 #define MFRC531_ASSERT(test, text) _Static_assert(test, text)
 #endif
-MFRC531_ASSERT(sizeof(mfrc531_core) == 40, "the layout of the core is the library's");
-MFRC531_ASSERT(offsetof(mfrc531_core, timer) == 4 && offsetof(mfrc531_core, checksum) == 12 && offsetof(mfrc531_core, writing) == 16 &&
-                   offsetof(mfrc531_core, interrupts) == 28 && offsetof(mfrc531_core, page) == 30 && offsetof(mfrc531_core, key_loaded) == 38,
+MFRC531_ASSERT(sizeof(mfrc531_core) == 32 && offsetof(mfrc531_core, timer) == 0 && offsetof(mfrc531_core, writing) == 8 &&
+                   offsetof(mfrc531_core, crc_register) == 16 && offsetof(mfrc531_core, page) == 19 && offsetof(mfrc531_core, ring) == 24 &&
+                   offsetof(mfrc531_core, interrupts) == 26 && offsetof(mfrc531_core, errors) == 28 && offsetof(mfrc531_core, receiving) == 31,
                "the layout of the core is the library's");
-MFRC531_ASSERT(sizeof(mfrc531_chip) == 672 && offsetof(mfrc531_chip, slots) == 40 && offsetof(mfrc531_chip, registers) == 104 &&
-                   offsetof(mfrc531_chip, latch) == 136 && offsetof(mfrc531_chip, key) == 152 && offsetof(mfrc531_chip, eeprom) == 158,
+MFRC531_ASSERT(sizeof(mfrc531_chip) == 664 && offsetof(mfrc531_chip, slots) == 32 && offsetof(mfrc531_chip, registers) == 96 &&
+                   offsetof(mfrc531_chip, latch) == 128 && offsetof(mfrc531_chip, key) == 144 && offsetof(mfrc531_chip, eeprom) == 150,
                "the layout of the chip is the library's");
 
 /* ---- The six events ------------------------------------------------------------------------------------------------------------------ */

@@ -15,19 +15,10 @@ pub struct Ring {
 #[derive(Clone, Copy, Debug, Default, PartialEq, Eq)]
 #[repr(C)]
 pub struct Timer {
+    pub phase: u32,
+    pub prescaler: u16,
     pub running: u8,
     pub value: u8,
-    pub prescaler: u8,
-    pub phase: u32,
-}
-
-/// The CRC register, and ChannelRedundancy as the latest CalcCRC read it.
-#[allow(missing_docs)]
-#[derive(Clone, Copy, Debug, Default, PartialEq, Eq)]
-#[repr(C)]
-pub struct Checksum {
-    pub register: u16,
-    pub mode: u8,
 }
 
 /// WriteE2: whether it has its address, where the next byte goes, how many bytes are latched, and the programming clocks left.
@@ -35,10 +26,10 @@ pub struct Checksum {
 #[derive(Clone, Copy, Debug, Default, PartialEq, Eq)]
 #[repr(C)]
 pub struct Writing {
-    pub addressed: u8,
-    pub next: u16,
-    pub latched: u8,
     pub left: u32,
+    pub next: u16,
+    pub addressed: u8,
+    pub latched: u8,
 }
 
 /// InterruptEn and InterruptRq.
@@ -50,25 +41,26 @@ pub struct Interrupts {
     pub requests: u8,
 }
 
-/// Everything but the arrays.
+/// Everything but the arrays. `crc_register` is the CRC register, and `crc_mode` is ChannelRedundancy as the latest CalcCRC read it.
 #[allow(missing_docs)]
 #[derive(Clone, Copy, Debug, Default, PartialEq, Eq)]
 #[repr(C)]
 pub struct Core {
-    pub ring: Ring,
     pub timer: Timer,
-    pub checksum: Checksum,
     pub writing: Writing,
-    pub interrupts: Interrupts,
+    pub crc_register: u16,
+    pub crc_mode: u8,
     pub page: u8,
-    pub command: u8,
-    pub sending: u8,
-    pub receiving: u8,
-    pub errors: u8,
     pub control: u8,
     pub rx_last_bits: u8,
     pub bit_framing: u8,
     pub key_loaded: u8,
+    pub ring: Ring,
+    pub interrupts: Interrupts,
+    pub errors: u8,
+    pub command: u8,
+    pub sending: u8,
+    pub receiving: u8,
 }
 
 /// A chip's whole state. Any values are a state of this type; which of them are a chip's is judged by each call.
@@ -92,9 +84,10 @@ impl ChipMemory {
 }
 
 const _: () = {
-    assert!(size_of::<Core>() == 40 && size_of::<ChipMemory>() == 672);
-    assert!(offset_of!(Core, timer) == 4 && offset_of!(Core, checksum) == 12 && offset_of!(Core, writing) == 16);
-    assert!(offset_of!(Core, interrupts) == 28 && offset_of!(Core, page) == 30 && offset_of!(Core, key_loaded) == 38);
-    assert!(offset_of!(ChipMemory, slots) == 40 && offset_of!(ChipMemory, registers) == 104);
-    assert!(offset_of!(ChipMemory, latch) == 136 && offset_of!(ChipMemory, key) == 152 && offset_of!(ChipMemory, eeprom) == 158);
+    assert!(size_of::<Core>() == 32 && size_of::<ChipMemory>() == 664);
+    assert!(offset_of!(Core, timer) == 0 && offset_of!(Core, writing) == 8 && offset_of!(Core, crc_register) == 16);
+    assert!(offset_of!(Core, page) == 19 && offset_of!(Core, ring) == 24 && offset_of!(Core, interrupts) == 26);
+    assert!(offset_of!(Core, errors) == 28 && offset_of!(Core, receiving) == 31);
+    assert!(offset_of!(ChipMemory, slots) == 32 && offset_of!(ChipMemory, registers) == 96);
+    assert!(offset_of!(ChipMemory, latch) == 128 && offset_of!(ChipMemory, key) == 144 && offset_of!(ChipMemory, eeprom) == 150);
 };

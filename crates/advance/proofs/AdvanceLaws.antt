@@ -22,7 +22,7 @@ use Rattle.chip.specs.declared.Core.{Core}
 use Rattle.chip.specs.declared.Writing.{Writing}
 use Rattle.well_formed.proofs.FormedLaws.{others-have, few-latched}
 use Rattle.chip.proofs.KeepLaws.{own-fields}
-use Rattle.commands.proofs.WriteLaws.{write-agrees, next-below, code-writes, is-programming}
+use Rattle.write_e2.proofs.WriteLaws.{write-agrees, next-below, code-writes, is-programming}
 
 -- What a clock leaves is well formed again, so that the next clock finds a well-formed machine.
 pub formed-by : (x m : Machine) → x ≡ m → Good m → Formed x

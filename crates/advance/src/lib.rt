@@ -10,13 +10,13 @@ ghost use Rattle.chip.specs.View.{viewOf, fieldsFormed};
 ghost use Rattle.chip.specs.Turns.{Keeps};
 use chip::Core;
 use chip::Writing;
-use commands::write_e2::stepped;
 use fifo::alerted;
 use fifo::held;
 use fifo::high;
 use fifo::low;
 use flags::raised_tx;
 use memories::store_batch;
+use write_e2::stepped;
 
 // A programming ends: its bytes are stored, and the next byte goes behind them. TxIRq is set where no byte is held;
 // else WriteE2 goes on with those that are, which one step does.

@@ -11,7 +11,6 @@ ghost use Rattle.machine.specs.Refusals.{start, hostRead, hostWrite, advance, t
 ghost use Rattle.chip.specs.Meets.{Meets};
 ghost use Rattle.bench.specs.Numbers.{profileNumber, choiceNumber};
 use chip::Chip;
-use events::parts;
 use profile::Refusal;
 use profile::Verdict;
 use safe_start::Choice;
@@ -21,7 +20,7 @@ use safe_start::Choice;
 pub extern "C" fn mfrc531_start(chip: &mut Chip, image: &[u8]) -> u32
     ensures { λ r. ⌜ Meets (now (chip .entry)) (start (now (image .entry))) (now (chip .exit)) r [] ⌝ }
 {
-    let next = parts::start(
+    let next = event_start::start(
         chip.core,
         &mut chip.slots,
         &mut chip.registers,
@@ -39,7 +38,7 @@ pub extern "C" fn mfrc531_start(chip: &mut Chip, image: &[u8]) -> u32
 pub extern "C" fn mfrc531_read(chip: &mut Chip, address: u8) -> u32
     ensures { λ r. ⌜ Meets (now (chip .entry)) (hostRead address) (now (chip .exit)) r [] ⌝ }
 {
-    let next = parts::host_read(
+    let next = event_read::host_read(
         chip.core,
         &mut chip.slots,
         &mut chip.registers,
@@ -57,7 +56,7 @@ pub extern "C" fn mfrc531_read(chip: &mut Chip, address: u8) -> u32
 pub extern "C" fn mfrc531_write(chip: &mut Chip, address: u8, v: u8) -> u32
     ensures { λ r. ⌜ Meets (now (chip .entry)) (hostWrite address v) (now (chip .exit)) r [] ⌝ }
 {
-    let next = parts::host_write(
+    let next = event_write::host_write(
         chip.core,
         &mut chip.slots,
         &mut chip.registers,
@@ -76,7 +75,7 @@ pub extern "C" fn mfrc531_write(chip: &mut Chip, address: u8, v: u8) -> u32
 pub extern "C" fn mfrc531_advance(chip: &mut Chip, clocks: u32) -> u32
     ensures { λ r. ⌜ Meets (now (chip .entry)) (advance clocks) (now (chip .exit)) r [] ⌝ }
 {
-    let next = parts::advance(
+    let next = event_advance::advance(
         chip.core,
         &mut chip.slots,
         &mut chip.registers,
@@ -94,7 +93,7 @@ pub extern "C" fn mfrc531_advance(chip: &mut Chip, clocks: u32) -> u32
 pub extern "C" fn mfrc531_take(chip: &mut Chip, buffer: &mut [u8]) -> u32
     ensures { λ r. ⌜ Meets (now (chip .entry)) (takeFrame (now (buffer .entry))) (now (chip .exit)) r (now (buffer .exit)) ⌝ }
 {
-    let next = parts::take(
+    let next = event_take::take(
         chip.core,
         &mut chip.slots,
         &mut chip.registers,
@@ -117,7 +116,7 @@ pub extern "C" fn mfrc531_deliver(
 ) -> u32
     ensures { λ r. ⌜ Meets (now (chip .entry)) (deliver (now (bytes .entry)) (now (parities .entry)) «last_bits») (now (chip .exit)) r [] ⌝ }
 {
-    let next = parts::deliver(
+    let next = event_deliver::deliver(
         chip.core,
         &mut chip.slots,
         &mut chip.registers,

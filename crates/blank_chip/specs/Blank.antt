@@ -10,7 +10,8 @@ blankCore =
     record {
       ring = record { read = 0; write = 0 };
       timer = record { running = 0; value = 0; prescaler = 0; phase = 0 };
-      checksum = record { register = 0; mode = 0 };
+      «crc_register» = 0;
+      «crc_mode» = 0;
       writing = record { addressed = 0; next = 0; latched = 0; left = 0 };
       interrupts = record { enables = 0; requests = 0 };
       page = 0;

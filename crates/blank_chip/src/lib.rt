@@ -1,7 +1,6 @@
 // A chip's memory before its first start, for programs that make a chip: every number is 0. A start judges no old chip, so any would do.
 ghost use mathlib.Core.Path.{_≡_};
 ghost use Rattle.blank_chip.specs.Blank.{blankCore, blankChip};
-use chip::Checksum;
 use chip::Chip;
 use chip::Core;
 use chip::Interrupts;
@@ -21,10 +20,8 @@ fn blank_core() -> Core
             prescaler: 0,
             phase: 0,
         },
-        checksum: Checksum {
-            register: 0,
-            mode: 0,
-        },
+        crc_register: 0,
+        crc_mode: 0,
         writing: Writing {
             addressed: 0,
             next: 0,

@@ -4,7 +4,6 @@ ghost use mathlib.Core.List.{[]};
 ghost use Rattle.machine.specs.Refusals.{start as Refusals·start, hostRead, hostWrite, advance as Refusals·advance, takeFrame, deliver as Refusals·deliver};
 ghost use Rattle.chip.specs.Meets.{Meets};
 use chip::Chip;
-use events::parts;
 
 // What an event by value gives back: the next chip, and the number answered.
 pub struct Outcome {
@@ -21,7 +20,7 @@ pub fn start(chip: Chip, image: &[u8]) -> Outcome
     let mut latch = chip.latch;
     let mut key = chip.key;
     let mut eeprom = chip.eeprom;
-    let step = parts::start(
+    let step = event_start::start(
         chip.core,
         &mut slots,
         &mut registers,
@@ -54,7 +53,7 @@ pub fn host_read(chip: Chip, address: u8) -> Outcome
     let mut latch = chip.latch;
     let mut key = chip.key;
     let mut eeprom = chip.eeprom;
-    let step = parts::host_read(
+    let step = event_read::host_read(
         chip.core,
         &mut slots,
         &mut registers,
@@ -87,7 +86,7 @@ pub fn host_write(chip: Chip, address: u8, v: u8) -> Outcome
     let mut latch = chip.latch;
     let mut key = chip.key;
     let mut eeprom = chip.eeprom;
-    let step = parts::host_write(
+    let step = event_write::host_write(
         chip.core,
         &mut slots,
         &mut registers,
@@ -121,7 +120,7 @@ pub fn advance(chip: Chip, clocks: u32) -> Outcome
     let mut latch = chip.latch;
     let mut key = chip.key;
     let mut eeprom = chip.eeprom;
-    let step = parts::advance(
+    let step = event_advance::advance(
         chip.core,
         &mut slots,
         &mut registers,
@@ -154,7 +153,7 @@ pub fn take(chip: Chip, buffer: &mut [u8]) -> Outcome
     let mut latch = chip.latch;
     let mut key = chip.key;
     let mut eeprom = chip.eeprom;
-    let step = parts::take(
+    let step = event_take::take(
         chip.core,
         &mut slots,
         &mut registers,
@@ -187,7 +186,7 @@ pub fn deliver(chip: Chip, bytes: &[u8], parities: &[u8], last_bits: u8) -> Outc
     let mut latch = chip.latch;
     let mut key = chip.key;
     let mut eeprom = chip.eeprom;
-    let step = parts::deliver(
+    let step = event_deliver::deliver(
         chip.core,
         &mut slots,
         &mut registers,

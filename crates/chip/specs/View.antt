@@ -76,7 +76,7 @@ viewOf c slots registers latch key eeprom =
             rxLastBits = c .«rx_last_bits»;
           };
       timer = record { running = isSet (c .timer .running); value = c .timer .value; prescaler = c .timer .prescaler; phase = c .timer .phase };
-      checksum = record { register = c .checksum .register; mode = c .checksum .mode };
+      checksum = record { register = c .«crc_register»; mode = c .«crc_mode» };
       key = record { loaded = isSet (c .«key_loaded»); bytes = key };
       bitFraming = c .«bit_framing»;
       registers = registers;

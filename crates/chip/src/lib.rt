@@ -12,26 +12,19 @@ pub struct Ring {
 // The timer: TRunning, TimerValue, and the prescaler and phase that are kept while it runs.
 #[repr(C)]
 pub struct Timer {
+    pub phase: u32,
+    pub prescaler: u16,
     pub running: u8,
     pub value: u8,
-    pub prescaler: u8,
-    pub phase: u32,
-}
-
-// The CRC register, and ChannelRedundancy as the latest CalcCRC read it.
-#[repr(C)]
-pub struct Checksum {
-    pub register: u16,
-    pub mode: u8,
 }
 
 // WriteE2: whether it has its address, where the next byte goes, how many bytes are latched, and the programming clocks left.
 #[repr(C)]
 pub struct Writing {
-    pub addressed: u8,
-    pub next: u16,
-    pub latched: u8,
     pub left: u32,
+    pub next: u16,
+    pub addressed: u8,
+    pub latched: u8,
 }
 
 // InterruptEn and InterruptRq, bits 5-0.
@@ -41,23 +34,25 @@ pub struct Interrupts {
     pub requests: u8,
 }
 
-// Everything but the memories.
+// Everything but the memories, 32 bytes with no gap between them: a gap would be carried along as one more field. `crc_register` is the CRC
+// register and `crc_mode` ChannelRedundancy, as the latest CalcCRC read it.
 #[repr(C)]
 pub struct Core {
-    pub ring: Ring,
     pub timer: Timer,
-    pub checksum: Checksum,
     pub writing: Writing,
-    pub interrupts: Interrupts,
+    pub crc_register: u16,
+    pub crc_mode: u8,
     pub page: u8,
-    pub command: u8,
-    pub sending: u8,
-    pub receiving: u8,
-    pub errors: u8,
     pub control: u8,
     pub rx_last_bits: u8,
     pub bit_framing: u8,
     pub key_loaded: u8,
+    pub ring: Ring,
+    pub interrupts: Interrupts,
+    pub errors: u8,
+    pub command: u8,
+    pub sending: u8,
+    pub receiving: u8,
 }
 
 // A chip: the core, the FIFO's slots, registers 10h-2Fh by position, the bytes that WriteE2 has latched, the key buffer and the EEPROM.

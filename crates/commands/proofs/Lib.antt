@@ -1,4 +1,1 @@
-pub mod LoadLaws
-pub mod OfferLaws
-pub mod StepLaws
-pub mod WriteLaws
+pub mod SettleLaws

@@ -6,7 +6,6 @@ ghost use Rattle.machine.specs.Commands.{checksumStarted, checksumTaken};
 ghost use Rattle.crc.specs.Checksum.{absorbedAll};
 ghost use Rattle.chip.specs.View.{heldFrom, viewOf};
 ghost use Rattle.chip.specs.Turns.{TurnsBy, Keeps};
-use chip::Checksum;
 use chip::Core;
 use fifo::emptied;
 use fifo::held;
@@ -19,12 +18,10 @@ pub fn started(core: Core, registers: &[u8; 32]) -> Core
     let mode = registers[0x22 - 0x10];
     let lsb = registers[0x23 - 0x10];
     let msb = registers[0x24 - 0x10];
-    let unit = Checksum {
-        register: crc::preset(mode, lsb, msb),
-        mode: mode,
-    };
+    let register = crc::preset(mode, lsb, msb);
     let mut next = core;
-    next.checksum = unit;
+    next.crc_register = register;
+    next.crc_mode = mode;
     next
 }
 
@@ -49,13 +46,15 @@ pub fn taken(core: Core, slots: &[u8; 64]) -> Core
     ensures turns { λ r. ⌜ ((registers latch key eeprom : List ℕ) → viewOf r (now (slots .entry)) registers latch key eeprom ≡ checksumTaken (viewOf core (now (slots .entry)) registers latch key eeprom)) ⌝ }
     ensures keeps { λ r. ⌜ Keeps core r ⌝ }
 {
-    let ring = core.ring;
-    let old = core.checksum;
-    let unit = Checksum {
-        register: absorbed(slots, ring.read, held(core), old.mode, old.register),
-        mode: old.mode,
-    };
+    let position = core.ring.read;
+    let register = absorbed(
+        slots,
+        position,
+        held(core),
+        core.crc_mode,
+        core.crc_register,
+    );
     let mut next = emptied(core);
-    next.checksum = unit;
+    next.crc_register = register;
     next
 }

@@ -1,4 +1,2 @@
-pub mod EventLaws
 pub mod MeetLaws
-pub mod RefusalLaws
 pub mod TypeLaws

@@ -4,22 +4,21 @@ use Prim.Native.Nat.{ℕ, suc, _/_, _%_, _<_, _≤_}
 use native.Mathlib.Omega.{arith}
 use mathlib.Core.Path.{_≡_, refl, sym, ap, _∙_, subst}
 use mathlib.Core.Bool.{Bool, true, false, cond, not, _&&_, _||_}
-use mathlib.Core.List.{List, [], _∷_}
-use lib.Dec.{ltb, leb, eqb}
-use lib.ListN.{length, drop}
+use mathlib.Core.List.{List}
+use lib.Dec.{ltb, eqb}
+use lib.ListN.{length}
 use borrow.Author.Tests.{ltb-true, lt-ltb, le-ltb}
-use Rattle.bits.specs.Bits.{Bytes}
-use Rattle.machine.specs.State.{Machine}
 use Rattle.machine.specs.WellFormed.{wellFormed, timerFormed, fifoFormed, commandFormed, nothingPends, checksumFormed, bitsFormed}
 use Rattle.machine.specs.WellFormedness.{Formed}
 use Rattle.machine.specs.Refusals.{Call, start, hostRead, hostWrite, advance, takeFrame, deliver, refusal, refuseIf, clockLimit, frameFormed, ByteCall}
-use Rattle.machine.specs.Fifo.{restOf}
 use Rattle.machine.specs.Frames.{sending, receiving}
-use Rattle.machine.specs.Events.{Outcome, accepted, perform, bufferOf}
+use Rattle.machine.specs.Events.{Outcome, accepted, bufferOf}
 use Rattle.machine.proofs.Performing.{as-accepted}
 use Rattle.machine.proofs.WellFormed.Parts.{both, each}
 use Rattle.machine.proofs.WellFormed.Kept.{well-formedness}
-use Rattle.chip.specs.View.{view, viewOf, fieldsFormed, chipFormed}
+use Rattle.well_formed.specs.Groups.{statusFormed, activeFormed, writeE2Formed}
+use Rattle.well_formed.proofs.GroupLaws.{by-groups}
+use Rattle.chip.specs.View.{heldCount, view, viewOf, fieldsFormed, chipFormed}
 use Rattle.chip.specs.Meets.{coded, chipRefusal, Meets, Whole, Promises}
 use Rattle.chip.specs.declared.Chip.{Chip}
 
@@ -61,12 +60,12 @@ pub start-refusal : (c : Chip) (image : List ℕ) (t : Bool) → eqb (length ima
 unfolding chipRefusal refusal
 start-refusal c image t e = ap (λ (b : Bool). refuseIf (not b) 2 0) e
 
--- What the check of the core, by its promise, says of the chip.
-pub judged : (c : Chip) → Whole c → {r : Bool} →
-    ((slots registers latch key eeprom : List ℕ) → length latch ≡ 16 → r ≡ (fieldsFormed (c .core) && wellFormed (viewOf (c .core) slots registers latch key eeprom))) →
-    (t : Bool) → r ≡ t → chipFormed c ≡ t
+-- What the three tests of the core, by their promises, say of the chip.
+pub judged : (c : Chip) → Whole c → {a b t : Bool} → a ≡ statusFormed (c .core) →
+    b ≡ activeFormed (c .core .command) (c .core .sending) (c .core .receiving) (heldCount (c .core .ring)) → ((latch : List ℕ) → length latch ≡ 16 → t ≡ writeE2Formed (c .core) latch) →
+    (v : Bool) → (a && (b && t)) ≡ v → chipFormed c ≡ v
 unfolding chipFormed
-judged c whole is t e = sym (is (c .slots) (c .registers) (c .latch) (c .key) (c .eeprom) (whole .latch-count)) ∙ e
+judged c whole status active writes v e = sym (by-groups (c .core) status active writes (c .slots) (c .registers) (c .latch) (c .key) (c .eeprom) (whole .latch-count)) ∙ e
 
 module _ (c : Chip) (formed : chipFormed c ≡ true) where
   -- The parts of being well formed.
@@ -181,8 +180,3 @@ malformed c (hostWrite address v) j e = refused c (hostWrite address v) 6 (ap (�
 malformed c (advance clocks) j e = refused c (advance clocks) 6 (ap (λ (t : Bool). cond t (refusal (view c) (advance clocks)) 7) e)
 malformed c (takeFrame buffer) j e = refused c (takeFrame buffer) 6 (ap (λ (t : Bool). cond t (refusal (view c) (takeFrame buffer)) 7) e)
 malformed c (deliver bytes parities lastBits) j e = refused c (deliver bytes parities lastBits) 6 (ap (λ (t : Bool). cond t (refusal (view c) (deliver bytes parities lastBits)) 7) e)
-
--- The first byte leaves.
-pub drop-one : (held : List ℕ) → drop 1 held ≡ restOf held
-drop-one [] = refl
-drop-one (b ∷ bs) = refl

@@ -17,8 +17,7 @@ use flags::with_fifo_ovfl;
 pub fn held(core: Core) -> u8
     ensures { λ r. ⌜ r ≡ heldCount (core .ring) ⌝ }
 {
-    let ring = core.ring;
-    std::num::wrapping_sub_u8(ring.write, ring.read)
+    std::num::wrapping_sub_u8(core.ring.write, core.ring.read)
 }
 
 // The byte at `k` of those held, the first to leave at 0; 0 where there are no more than `k`.
@@ -26,8 +25,7 @@ pub fn argument(core: Core, slots: &[u8; 64], k: u8) -> u8
     ensures { λ r. ⌜ r ≡ getD (heldOf (core .ring) (now (slots .entry))) k 0 ⌝ }
 {
     if k < held(core) {
-        let ring = core.ring;
-        let slot = (std::num::wrapping_add_u8(ring.read, k) % 64) as usize;
+        let slot = (std::num::wrapping_add_u8(core.ring.read, k) % 64) as usize;
         slots[slot]
     } else {
         0
@@ -46,10 +44,9 @@ pub fn emptied(core: Core) -> Core
     ensures turns { λ r. ⌜ Turns (withHeld []) core r ⌝ }
     ensures keeps { λ r. ⌜ Keeps core r ⌝ }
 {
-    let mut ring = core.ring;
-    ring.read = ring.write;
+    let write = core.ring.write;
     let mut next = core;
-    next.ring = ring;
+    next.ring.read = write;
     next
 }
 
@@ -61,10 +58,9 @@ pub fn taken(core: Core, count: u8) -> Core
     if held(core) <= count {
         return emptied(core);
     }
-    let mut ring = core.ring;
-    ring.read = std::num::wrapping_add_u8(ring.read, count);
+    let read = std::num::wrapping_add_u8(core.ring.read, count);
     let mut next = core;
-    next.ring = ring;
+    next.ring.read = read;
     next
 }
 
@@ -78,12 +74,11 @@ pub fn offered(core: Core, slots: &mut [u8; 64], byte: u8) -> Core
     if held(core) >= 64 {
         return with_fifo_ovfl(core, true);
     }
-    let mut ring = core.ring;
-    let slot = (ring.write % 64) as usize;
+    let slot = (core.ring.write % 64) as usize;
     slots[slot] = byte;
-    ring.write = std::num::wrapping_add_u8(ring.write, 1);
+    let write = std::num::wrapping_add_u8(core.ring.write, 1);
     let mut next = core;
-    next.ring = ring;
+    next.ring.write = write;
     next
 }
 
@@ -123,10 +118,14 @@ pub fn alerted(core: Core, registers: &[u8; 32], was_low: bool, was_high: bool) 
     ensures turns { λ r. ⌜ ((b : Machine) → loAlert b ≡ «was_low» → hiAlert b ≡ «was_high» → TurnsBy (now (registers .entry)) (Fifo·alerted b) core r) ⌝ }
     ensures keeps { λ r. ⌜ Keeps core r ⌝ }
 {
-    let mut interrupts = core.interrupts;
-    interrupts.requests = requested(interrupts.requests, 0x01, was_low, low(core, registers));
-    interrupts.requests = requested(interrupts.requests, 0x02, was_high, high(core, registers));
+    let with_low = requested(
+        core.interrupts.requests,
+        0x01,
+        was_low,
+        low(core, registers),
+    );
+    let requests = requested(with_low, 0x02, was_high, high(core, registers));
     let mut next = core;
-    next.interrupts = interrupts;
+    next.interrupts.requests = requests;
     next
 }

@@ -2,7 +2,6 @@
 //
 // Bits are set by `|` and cleared by `&` with the others; bits that always read 0 are never set.
 use chip::Core;
-use chip::Writing;
 ghost use mathlib.Core.Path.{_≡_};
 ghost use mathlib.Core.Bool.{true, cond};
 ghost use Prim.Native.Nat.{_+_};
@@ -23,10 +22,8 @@ fn with_enables(core: Core, enables: u8) -> Core
     ensures turns { λ r. ⌜ Turns (withEnables (interruptsOf enables)) core r ⌝ }
     ensures keeps { λ r. ⌜ (ltb enables 64 ≡ true → Keeps core r) ⌝ }
 {
-    let mut interrupts = core.interrupts;
-    interrupts.enables = enables;
     let mut next = core;
-    next.interrupts = interrupts;
+    next.interrupts.enables = enables;
     next
 }
 
@@ -34,10 +31,8 @@ fn with_requests(core: Core, requests: u8) -> Core
     ensures turns { λ r. ⌜ Turns (withRequests (interruptsOf requests)) core r ⌝ }
     ensures keeps { λ r. ⌜ (ltb requests 64 ≡ true → Keeps core r) ⌝ }
 {
-    let mut interrupts = core.interrupts;
-    interrupts.requests = requests;
     let mut next = core;
-    next.interrupts = interrupts;
+    next.interrupts.requests = requests;
     next
 }
 
@@ -175,16 +170,13 @@ pub fn ended(core: Core) -> Core
     ensures turns { λ r. ⌜ Turns Commands·ended core r ⌝ }
     ensures keeps { λ r. ⌜ Keeps core r ⌝ }
 {
-    let writing = Writing {
-        addressed: 0,
-        next: 0,
-        latched: 0,
-        left: 0,
-    };
     let mut next = raised_idle(core);
     next.command = 0;
     next.sending = 0;
     next.receiving = 0;
-    next.writing = writing;
+    next.writing.addressed = 0;
+    next.writing.next = 0;
+    next.writing.latched = 0;
+    next.writing.left = 0;
     next
 }

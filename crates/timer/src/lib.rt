@@ -1,6 +1,5 @@
 // The timer: it is started, stopped and clocked by the registers TimerClock (2Ah) and TimerReload (2Ch).
 use chip::Core;
-use chip::Timer;
 use flags::raised_timer;
 ghost use Prim.Native.Nat.{_<_};
 ghost use mathlib.Core.Bool.{cond};
@@ -13,29 +12,23 @@ fn stopped_at(core: Core, value: u8) -> Core
     ensures turns { λ r. ⌜ Turns (withTimer (stoppedAt value)) core r ⌝ }
     ensures keeps { λ r. ⌜ Keeps core r ⌝ }
 {
-    let timer = Timer {
-        running: 0,
-        value: value,
-        prescaler: 0,
-        phase: 0,
-    };
     let mut next = core;
-    next.timer = timer;
+    next.timer.running = 0;
+    next.timer.value = value;
+    next.timer.prescaler = 0;
+    next.timer.phase = 0;
     next
 }
 
-fn running_at(core: Core, value: u8, prescaler: u8, phase: u32) -> Core
+fn running_at(core: Core, value: u8, prescaler: u16, phase: u32) -> Core
     ensures turns { λ r. ⌜ Turns (withTimer (runningAt value prescaler phase)) core r ⌝ }
     ensures keeps { λ r. ⌜ Keeps core r ⌝ }
 {
-    let timer = Timer {
-        running: 1,
-        value: value,
-        prescaler: prescaler,
-        phase: phase,
-    };
     let mut next = core;
-    next.timer = timer;
+    next.timer.running = 1;
+    next.timer.value = value;
+    next.timer.prescaler = prescaler;
+    next.timer.phase = phase;
     next
 }
 
@@ -55,7 +48,7 @@ pub fn started(core: Core, registers: &[u8; 32]) -> Core
     if reload == 0 {
         return stopped_at(core, 0);
     }
-    let prescaler = registers[0x2A - 0x10] % 32;
+    let prescaler = (registers[0x2A - 0x10] % 32) as u16;
     if 21 < prescaler {
         return stopped_at(core, 0);
     }

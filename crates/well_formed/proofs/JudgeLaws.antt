@@ -1,22 +1,22 @@
 -- Laws for judging a state fast: a byte's mask for each of its tests, a timer's tests without a choice, and tests in another order.
 -- Assumes nothing.
 use mathlib.Core.Path.{_≡_, _∙_, refl, sym, ap}
-use mathlib.Core.Bool.{Bool, true, false, cond, not, _&&_, _||_, and-true, and-false, and-assoc, and-comm, and-self, or-false}
+use mathlib.Core.Bool.{Bool, true, false, cond, not, _&&_, _||_, and-true, and-false, and-assoc, and-comm, and-self}
 use mathlib.Core.List.{List}
 use Prim.Native.Nat.{ℕ, zero, suc, _+_, _*_, _/_, _%_, _^_, _<_, _≤_}
 use native.Mathlib.Nat.{zero-add}
 use native.Mathlib.Omega.{arith}
 use lib.Bits.{bitAnd, bitOr, and-le-r, or-add-and}
 use lib.Dec.{T, eqb, ltb, leb, leb·zero}
-use borrow.Author.Tests.{le-leb, leb-true, eqb-true, ne-eqb, le-ltb}
+use borrow.Author.Tests.{le-leb, leb-true, leb-false, eqb-true, eq-eqb, ne-eqb, lt-ltb, le-ltb}
 use Rattle.bits.specs.Bits.{bit}
 use Rattle.bits.proofs.Below.{all, each, agree}
-use Rattle.machine.specs.State as m
 use Rattle.machine.specs.State.{Command, TransceiveSending, TransceiveReceiving}
-use Rattle.machine.specs.WellFormed.{fifoFormed, timerFormed, commandFormed, waits, nothingPends, checksumFormed, bitsFormed, wellFormed}
+use Rattle.machine.specs.WellFormed.{timerFormed, waits, checksumFormed, bitsFormed}
 use Rattle.machine.proofs.WellFormed.Parts as Parts
-use Rattle.chip.specs.View.{heldOf, isFlag, isSet, writingOf, commandOf, viewOf, listed, flowAgrees, writingAgrees, bitsAgree, fieldsFormed}
+use Rattle.chip.specs.View.{isFlag, isSet, bitsAgree}
 use Rattle.chip.specs.declared.Core.{Core}
+use Rattle.well_formed.specs.Groups.{statusFormed, activeFormed}
 use Rattle.well_formed.proofs.FormedLaws.{joined, joined-if}
 
 -- Two tests that agree at each byte, from one test that the checker computes.
@@ -125,97 +125,75 @@ gone : (a b q : Bool) → (a && b) ≡ false → false ≡ (a && (b && q))
 gone true b q e = rw e
 gone false b q e = refl
 
--- The clauses of a command but WriteE2, of so many held bytes.
-module _ (code s r held : ℕ) (w : m.Writing) where
-  abbrev pub Clauses : Bool
-  Clauses = listed code && (flowAgrees code s r && (leb held 64 && leb held (waits (commandOf code s w))))
+-- A count that is below one more than so many.
+below-next : (t : Bool) (n l : ℕ) → leb n l ≡ t → ltb n (suc l) ≡ t
+below-next true n l e = lt-ltb n (suc l) (omega (arith, leb-true n l e))
+below-next false n l e = le-ltb n (suc l) (omega (arith, leb-false n l e))
 
-  -- Of Idle.
-  pub idle : (eqb code 0 && (eqb s 0 && eqb r 0)) ≡ true → leb held 64 ≡ Clauses
-  idle h =
-      let silent = Parts.each (eqb s 0) (eqb r 0) (Parts.each (eqb code 0) (eqb s 0 && eqb r 0) h .1) in
-      simp (silent .0, silent .1, eqb-true code 0 (Parts.each (eqb code 0) (eqb s 0 && eqb r 0) h .0), and-self)
+pub below : (n l : ℕ) → ltb n (suc l) ≡ leb n l
+below n l = below-next (leb n l) n l refl
 
-  -- Of Transceive, which waits alike while it sends and while it receives.
-  pub transceive : code ≡ 0x1E → (((eqb s 1 && eqb r 0) || (eqb s 0 && eqb r 1)) && leb held 64) ≡ Clauses
-  transceive e =
-      let alike-waits : waits (cond (isSet s) TransceiveSending TransceiveReceiving) ≡ 64 = Parts.either (λ (c : Command). waits c ≡ 64) (isSet s) _ _ refl refl in
-      simp (e, one-flow s r, alike-waits, and-self)
+-- A command that sends or receives, by its code, does so; and no other command does.
+silent-none : (x y z : Bool) (q : Bool) → false ≡ ((x || (y || z)) && (cond y false (cond x false (cond z false true)) && q))
+silent-none true true z q = refl
+silent-none true false z q = refl
+silent-none false true z q = refl
+silent-none false false true q = refl
+silent-none false false false q = refl
 
-  -- Of no command. The shape of the premise is that of a `match`'s last arm.
-  pub no-command : (eqb code 0 && (eqb s 0 && eqb r 0)) ≡ false → (code ≡ 0x01 → ⊥) →
-      ((((((((Unit {0} × (code ≡ 0x03 → ⊥)) × (code ≡ 0x07 → ⊥)) × (code ≡ 0x0B → ⊥)) × (code ≡ 0x12 → ⊥)) × (code ≡ 0x16 → ⊥)) × (code ≡ 0x19 → ⊥)) × (code ≡ 0x1A → ⊥)) × (code ≡ 0x1E → ⊥)) →
-      false ≡ Clauses
-  no-command h n ((((((((u, n03), n07), n0B), n12), n16), n19), n1A), n1E) =
-      simp
-      (ne-eqb code 0x01 n, ne-eqb code 0x03 n03, ne-eqb code 0x07 n07, ne-eqb code 0x0B n0B, ne-eqb code 0x12 n12, ne-eqb code 0x16 n16, ne-eqb code 0x19 n19, ne-eqb code 0x1A n1A, ne-eqb code 0x1E n1E, or-false)
-      (gone (eqb code 0) (eqb s 0 && eqb r 0) _ h)
+-- No command, or one that would send or receive: the shape of the premise is that of a `match`'s last arm.
+pub none-silent : (code held : ℕ) →
+    (((((((Unit {0} × (code ≡ 0x00 → ⊥)) × (code ≡ 0x01 → ⊥)) × (code ≡ 0x03 → ⊥)) × (code ≡ 0x07 → ⊥)) × (code ≡ 0x0B → ⊥)) × (code ≡ 0x12 → ⊥)) × (code ≡ 0x19 → ⊥)) →
+    false ≡ activeFormed code 0 0 held
+none-silent code held (((((((u, n00), n01), n03), n07), n0B), n12), n19) =
+    simp
+    (ne-eqb code 0x00 n00, ne-eqb code 0x01 n01, ne-eqb code 0x03 n03, ne-eqb code 0x07 n07, ne-eqb code 0x0B n0B, ne-eqb code 0x12 n12, ne-eqb code 0x19 n19)
+    (silent-none (eqb code 0x16) (eqb code 0x1A) (eqb code 0x1E) _)
+
+module _ (code s r held : ℕ) where
+  -- Of a count that is what is held: where nothing is sent or received, and of the three commands that send or receive. Transceive waits
+  -- alike while it sends and while it receives.
+  module _ {n : ℕ} (is : n ≡ held) where
+    pub silent : (room : ℕ) → bitOr s r ≡ 0 → ((k : ℕ) → ltb k room ≡ activeFormed code 0 0 k) → ltb n room ≡ activeFormed code s r held
+    silent room none waits-below =
+        let zeros = Parts.each (eqb s 0) (eqb r 0) (sym (or-zero s r) ∙ eq-eqb (bitOr s r) 0 none) in
+        waits-below n
+        ∙ ap (activeFormed code 0 0) is
+        ∙ ap (λ (x : ℕ). activeFormed code x 0 held) (sym (eqb-true s 0 (zeros .0)))
+        ∙ ap (λ (x : ℕ). activeFormed code s x held) (sym (eqb-true r 0 (zeros .1)))
+
+    pub transmit : code ≡ 0x1A → ((eqb s 1 && eqb r 0) && leb n 64) ≡ activeFormed code s r held
+    transmit e = simp (e, is, and-self)
+
+    pub receive : code ≡ 0x16 → ((eqb s 0 && eqb r 1) && leb n 64) ≡ activeFormed code s r held
+    receive e = simp (e, is, and-self)
+
+    pub transceive : code ≡ 0x1E → (((eqb s 1 && eqb r 0) || (eqb s 0 && eqb r 1)) && leb n 64) ≡ activeFormed code s r held
+    transceive e =
+        let alike-waits : waits (cond (isSet s) TransceiveSending TransceiveReceiving) ≡ 64 = Parts.either (λ (c : Command). waits c ≡ 64) (isSet s) _ _ refl refl in
+        simp (e, is, one-flow s r, alike-waits, and-self)
+
+  -- Where something is sent or received, no command but these three agrees.
+  pub no-flow : (bitOr s r ≡ 0 → ⊥) → (code ≡ 0x16 → ⊥) → (code ≡ 0x1A → ⊥) → (code ≡ 0x1E → ⊥) → false ≡ activeFormed code s r held
+  no-flow some n16 n1A n1E =
+      let silent : (eqb s 0 && eqb r 0) ≡ false = sym (or-zero s r) ∙ ne-eqb (bitOr s r) 0 some in
+      simp (ne-eqb code 0x16 n16, ne-eqb code 0x1A n1A, ne-eqb code 0x1E n1E, silent, and-false)
 
 -- WriteE2's clauses: where its fields agree, they can be judged.
-pub write-e2 : (flows few s : Bool) {a f g t u : Bool} → a ≡ s → (s ≡ true → f ≡ g) → t ≡ u → (flows && (a && (few && (f && t)))) ≡ (flows && (s && (few && (g && u))))
-write-e2 flows few true e judged pends = rw (e, judged refl, pends)
-write-e2 flows few false e judged pends = rw e
+pub write-e2 : (s : Bool) {a f g t u : Bool} → a ≡ s → (s ≡ true → f ≡ g) → t ≡ u → (a && (f && t)) ≡ (s && (g && u))
+write-e2 true e judged pends = rw (e, judged refl, pends)
+write-e2 false e judged pends = rw e
 
--- The clauses in the order of the specification.
-and-left-comm : (a b c : Bool) → (a && (b && c)) ≡ (b && (a && c))
-and-left-comm true b c = refl
-and-left-comm false b c = sym (and-false b)
-
-pub reordered : (listed flows writes bits fifo timer command pends checksum zeros : Bool) →
-    ((bits && (zeros && (timer && checksum))) && (listed && (flows && (writes && (fifo && (command && pends))))))
-    ≡ ((listed && (flows && (writes && bits))) && (fifo && (timer && (command && (pends && (checksum && zeros))))))
-reordered l f w b q t c p k z = simp (and-assoc, and-comm, and-left-comm)
-
+-- Where bits are as they should be, the timer's flag is 0 or 1.
 module _ (c : Core) where
-  -- What is judged of every state, and what of the active command.
-  abbrev timer : Bool
-  timer = timerFormed (record { running = isSet (c .timer .running); value = c .timer .value; prescaler = c .timer .prescaler; phase = c .timer .phase })
-
-  abbrev checksum : Bool
-  checksum = checksumFormed (record { register = c .checksum .register; mode = c .checksum .mode })
-
-  abbrev zeros : Bool
-  zeros = bitsFormed (c .page) (c .control) (c .«rx_last_bits»)
-
-  abbrev flows : Bool
-  flows = flowAgrees (c .command) (c .sending) (c .receiving)
-
-  abbrev writes : Bool
-  writes = writingAgrees (c .command) (c .writing)
-
-  abbrev command : List ℕ → Command
-  command latch = commandOf (c .command) (c .sending) (writingOf (c .writing) latch)
-
-  abbrev pub Steady : Bool
-  Steady = bitsAgree c && (zeros && (timer && checksum))
-
-  abbrev pub Active : List ℕ → List ℕ → Bool
-  Active slots latch =
-      listed (c .command)
-      && (flows
-      && (writes
-      && (fifoFormed (heldOf (c .ring) slots) && (commandFormed (command latch) && nothingPends (command latch) (heldOf (c .ring) slots)))))
-
-  -- Where bits are as they should be, the timer's flag is 0 or 1.
   running-flag : bitsAgree c ≡ true → isFlag (c .timer .running) ≡ true
   running-flag h =
       let after-enables = Parts.each (ltb (c .interrupts .enables) 64) _ h .1 in
       let after-requests = Parts.each (ltb (c .interrupts .requests) 64) _ after-enables .1 in
       Parts.each (isFlag (c .timer .running)) _ (Parts.each (eqb (bit (c .errors) 7 + (bit (c .errors) 2 + bit (c .errors) 0)) 0) _ after-requests .1) .0
 
-  -- Every state's tests, each by its answer.
-  pub steady : {a b t k : Bool} → a ≡ bitsAgree c → b ≡ zeros → (isFlag (c .timer .running) ≡ true → t ≡ timer) → k ≡ checksum → (a && (b && (t && k))) ≡ Steady
-  steady agrees are-zeros times sums = joined-if _ _ _ agrees (λ agree. joined are-zeros (joined (times (running-flag agree)) sums))
-
-  module _ (slots registers latch key eeprom : List ℕ) where
-    clauses : (Steady && Active slots latch) ≡ (fieldsFormed c && wellFormed (viewOf c slots registers latch key eeprom))
-    unfolding wellFormed viewOf
-    clauses =
-        let held = heldOf (c .ring) slots in
-        reordered (listed (c .command)) flows writes (bitsAgree c) (fifoFormed held) timer (commandFormed (command latch)) (nothingPends (command latch) held) checksum zeros
-
-    pub malformed : Steady ≡ false → false ≡ (fieldsFormed c && wellFormed (viewOf c slots registers latch key eeprom))
-    malformed e = sym (ap (λ (b : Bool). b && Active slots latch) e) ∙ clauses
-
-    pub judged : {r : Bool} → Steady ≡ true → r ≡ Active slots latch → r ≡ (fieldsFormed c && wellFormed (viewOf c slots registers latch key eeprom))
-    judged e active = active ∙ sym (ap (λ (b : Bool). b && Active slots latch) e) ∙ clauses
+  -- The first group, each test by its answer.
+  pub status : {a b t k : Bool} → a ≡ bitsAgree c → b ≡ bitsFormed (c .page) (c .control) (c .«rx_last_bits») →
+      (isFlag (c .timer .running) ≡ true → t ≡ timerFormed (record { running = isSet (c .timer .running); value = c .timer .value; prescaler = c .timer .prescaler; phase = c .timer .phase })) →
+      k ≡ checksumFormed (record { register = c .«crc_register»; mode = c .«crc_mode» }) → (a && (b && (t && k))) ≡ statusFormed c
+  status agrees are-zeros times sums = joined-if _ _ _ agrees (λ agree. joined are-zeros (joined (times (running-flag agree)) sums))

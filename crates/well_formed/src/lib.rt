@@ -1,22 +1,103 @@
 // Whether a chip's state is well formed: refusal 7. It is judged from the core alone, since the memories have their sizes by their types.
 //
-// Tests are joined by `&` and `|`: to a proof these are the specification's own `&&` and `||`, so that it needs no case for each test.
-// Every call of the chip judges it first, so it is fast where the chip is well formed: bits are tested by masks, a branch is taken by the
-// active command alone, and a state that is malformed leaves early.
+// Every call of the chip judges it first, so it has to be fast where the chip is well formed. Its clauses are judged in three groups, each
+// short enough for the compiler to put it into the call. Tests are joined by `&` and `|`: to a proof these are the specification's own `&&`
+// and `||`, so that it needs no case for each test.
 ghost use Prim.Native.Nat.{ℕ, _≤_};
 ghost use mathlib.Core.Bool.{true, _&&_};
 ghost use mathlib.Core.List.{List};
 ghost use mathlib.Core.Path.{_≡_};
-ghost use lib.Dec.{leb};
+ghost use lib.Dec.{ltb, leb};
 ghost use lib.ListN.{length};
-ghost use Rattle.machine.specs.State.{Writing as State·Writing};
-ghost use Rattle.machine.specs.WellFormed.{fifoFormed, timerFormed, writingFormed, commandFormed, writingWaits, waits, nothingPends, checksumFormed, bitsFormed, wellFormed};
-ghost use Rattle.chip.specs.View.{heldOf, isSet, isFlag, writingOf, commandOf, viewOf, listed, flowAgrees, writingAgrees, bitsAgree, fieldsFormed};
-use chip::Checksum;
+ghost use Rattle.machine.specs.WellFormed.{timerFormed, writingFormed, writingWaits, checksumFormed, bitsFormed};
+ghost use Rattle.chip.specs.View.{heldCount, isSet, isFlag, writingOf, writingAgrees, bitsAgree};
+ghost use Rattle.well_formed.specs.Groups.{statusFormed, activeFormed, writeE2Formed};
 use chip::Core;
 use chip::Timer;
 use chip::Writing;
 use fifo::held;
+
+// InterruptEn, InterruptRq and ErrorFlag have 0 where they always read 0, and flags are 0 or 1: each byte has none of a mask's bits.
+fn bits_agree(core: Core) -> bool
+    ensures { λ r. ⌜ r ≡ bitsAgree core ⌝ }
+{
+    let requests = (core.interrupts.enables & 0xC0 == 0) & (core.interrupts.requests & 0xC0 == 0);
+    let flags = (core.timer.running & 0xFE == 0) & (core.key_loaded & 0xFE == 0);
+    requests & ((core.errors & 0x85 == 0) & flags)
+}
+
+// Page, Control and SecondaryStatus have 0 where they always read 0, likewise.
+fn bits_formed(page: u8, control: u8, last: u8) -> bool
+    ensures { λ r. ⌜ r ≡ bitsFormed page control last ⌝ }
+{
+    (page & 0x78 == 0) & ((control & 0xCF == 0) & (last & 0xF8 == 0))
+}
+
+// A running timer counts from a value and keeps a prescaler with its phase; a stopped one keeps neither. No test asks which it is: the
+// prescaler is at most 21 times the flag, which is 0 or 1, the value is at least the flag, and the phase of a prescaler of 0 is below 1.
+fn timer_formed(timer: Timer) -> bool
+    ensures { λ r. ⌜ (isFlag (timer .running) ≡ true → r ≡ timerFormed (record { running = isSet (timer .running); value = timer .value; prescaler = timer .prescaler; phase = timer .phase })) ⌝ }
+{
+    let kept = timer.prescaler <= 21 * timer.running as u16;
+    let clocks = 1u32 << (timer.prescaler % 32);
+    kept & ((timer.running <= timer.value) & (timer.phase < clocks))
+}
+
+// A checksum of eight bits is below 100h.
+fn checksum_formed(register: u16, mode: u8) -> bool
+    ensures { λ r. ⌜ r ≡ checksumFormed (record { register = register; mode = mode }) ⌝ }
+{
+    (mode / 16 % 2 == 0) | (register < 0x100)
+}
+
+// The first group: bits that always read 0, flags, the timer and the checksum.
+pub fn status_formed(core: Core) -> bool
+    ensures { λ r. ⌜ r ≡ statusFormed core ⌝ }
+{
+    let agree = bits_agree(core);
+    let bits = bits_formed(core.page, core.control, core.rx_last_bits);
+    let timer = timer_formed(core.timer);
+    let checksum = checksum_formed(core.crc_register, core.crc_mode);
+    agree & (bits & (timer & checksum))
+}
+
+// One more than the most bytes that may wait in a command that neither sends nor receives; 0 where the code has no such command.
+fn room(code: u8) -> u8
+    ensures { λ r. ⌜ ((held : ℕ) → ltb held r ≡ activeFormed code 0 0 held) ⌝ }
+{
+    match code {
+        0x00 => 65, // Idle
+        0x01 => 65, // WriteE2, whose own clauses say more
+        0x03 => 3, // ReadE2
+        0x07 => 2, // LoadConfig
+        0x0B => 2, // LoadKeyE2
+        0x12 => 1, // CalcCRC
+        0x19 => 12, // LoadKey
+        _ => 0,
+    }
+}
+
+// The second group: the code is listed, sending and receiving agree with it, and no more bytes are held than may wait.
+pub fn command_formed(core: Core) -> bool
+    ensures { λ r. ⌜ r ≡ activeFormed (core .command) (core .sending) (core .receiving) (heldCount (core .ring)) ⌝ }
+{
+    let count = held(core);
+    if core.sending | core.receiving == 0 {
+        return count < room(core.command);
+    }
+    let sends = (core.sending == 1) & (core.receiving == 0);
+    let receives = (core.sending == 0) & (core.receiving == 1);
+    if core.command == 0x1A {
+        return sends & (count <= 64);
+    }
+    if core.command == 0x16 {
+        return receives & (count <= 64);
+    }
+    if core.command == 0x1E {
+        return (sends | receives) & (count <= 64);
+    }
+    false
+}
 
 // An active WriteE2's fields agree with each other.
 fn writing_agrees(writing: Writing) -> bool
@@ -58,16 +139,14 @@ fn writing_waits(writing: Writing) -> u8
     1
 }
 
-// WriteE2's clauses: it sends and receives nothing, its fields agree and are well formed, and no more bytes wait than may.
-fn write_e2_formed(sending: u8, receiving: u8, writing: Writing, held: u8) -> bool
+// An active WriteE2's clauses: its fields agree and are well formed, and no more bytes wait than may.
+fn active_formed(writing: Writing, held: u8) -> bool
     ensures { λ r. ⌜ ((latch : List ℕ) → length latch ≡ 16 →
-        r ≡ (flowAgrees 0x01 sending receiving
-        && (writingAgrees 0x01 writing && (leb held 64 && (writingFormed (writingOf writing latch) && leb held (writingWaits (writingOf writing latch))))))) ⌝ }
+        r ≡ (writingAgrees 0x01 writing && (writingFormed (writingOf writing latch) && leb held (writingWaits (writingOf writing latch))))) ⌝ }
 {
-    let silent = (sending == 0) & (receiving == 0);
     let agrees = writing_agrees(writing);
     let most = writing_waits(writing);
-    silent & (agrees & ((held <= 64) & (writing_formed(writing) & (held <= most))))
+    agrees & (writing_formed(writing) & (held <= most))
 }
 
 // The fields of a WriteE2 that is not active: no address, no latched bytes and no clocks left.
@@ -79,96 +158,13 @@ fn not_writing(code: u8, writing: Writing) -> bool
     (writing.next < 0x200) & (addressed | latched | writing.left == 0)
 }
 
-// The clauses of every command but WriteE2: its code is listed, sending and receiving agree with it, and no more bytes wait than may.
-// Idle, the most frequent, comes first.
-fn command_formed(code: u8, sending: u8, receiving: u8, held: u8) -> bool
-    ensures { λ r. ⌜ ((w : State·Writing) → (code ≡ 0x01 → ⊥) →
-        r ≡ (listed code && (flowAgrees code sending receiving && (leb held 64 && leb held (waits (commandOf code sending w)))))) ⌝ }
+// The third group: WriteE2's fields.
+pub fn write_e2_formed(core: Core) -> bool
+    ensures { λ r. ⌜ ((latch : List ℕ) → length latch ≡ 16 → r ≡ writeE2Formed core latch) ⌝ }
 {
-    let silent = (sending == 0) & (receiving == 0);
-    if (code == 0x00) & silent {
-        return held <= 64;
-    }
-    let sends = (sending == 1) & (receiving == 0);
-    let receives = (sending == 0) & (receiving == 1);
-    match code {
-        0x03 => silent & (held <= 2), // ReadE2
-        0x07 => silent & (held <= 1), // LoadConfig
-        0x0B => silent & (held <= 1), // LoadKeyE2
-        0x12 => silent & (held == 0), // CalcCRC
-        0x16 => receives & (held <= 64), // Receive
-        0x19 => silent & (held <= 11), // LoadKey
-        0x1A => sends & (held <= 64), // Transmit
-        0x1E => (sends | receives) & (held <= 64), // Transceive
-        _ => false,
-    }
-}
-
-// The active command's clauses.
-fn activity_formed(core: Core) -> bool
-    ensures { λ r. ⌜ ((slots latch : List ℕ) → length latch ≡ 16 →
-        r ≡ (listed (core .command)
-        && (flowAgrees (core .command) (core .sending) (core .receiving)
-        && (writingAgrees (core .command) (core .writing)
-        && (fifoFormed (heldOf (core .ring) slots)
-        && (commandFormed (commandOf (core .command) (core .sending) (writingOf (core .writing) latch))
-        && nothingPends (commandOf (core .command) (core .sending) (writingOf (core .writing) latch)) (heldOf (core .ring) slots))))))) ⌝ }
-{
-    let count = held(core);
+    let writing = core.writing;
     if core.command == 0x01 {
-        return write_e2_formed(core.sending, core.receiving, core.writing, count);
+        return active_formed(writing, held(core));
     }
-    if !not_writing(core.command, core.writing) {
-        return false;
-    }
-    command_formed(core.command, core.sending, core.receiving, count)
-}
-
-// InterruptEn, InterruptRq and ErrorFlag have 0 where they always read 0, and flags are 0 or 1: each byte has none of a mask's bits.
-fn bits_agree(core: Core) -> bool
-    ensures { λ r. ⌜ r ≡ bitsAgree core ⌝ }
-{
-    let interrupts = core.interrupts;
-    let timer = core.timer;
-    let requests = (interrupts.enables & 0xC0 == 0) & (interrupts.requests & 0xC0 == 0);
-    let flags = (timer.running & 0xFE == 0) & (core.key_loaded & 0xFE == 0);
-    requests & ((core.errors & 0x85 == 0) & flags)
-}
-
-// Page, Control and SecondaryStatus have 0 where they always read 0, likewise.
-fn bits_formed(page: u8, control: u8, last: u8) -> bool
-    ensures { λ r. ⌜ r ≡ bitsFormed page control last ⌝ }
-{
-    (page & 0x78 == 0) & ((control & 0xCF == 0) & (last & 0xF8 == 0))
-}
-
-// A running timer counts from a value and keeps a prescaler with its phase; a stopped one keeps neither. No test asks which it is: the
-// prescaler is at most 21 times the flag, which is 0 or 1, the value is at least the flag, and the phase of a prescaler of 0 is below 1.
-fn timer_formed(timer: Timer) -> bool
-    ensures { λ r. ⌜ (isFlag (timer .running) ≡ true → r ≡ timerFormed (record { running = isSet (timer .running); value = timer .value; prescaler = timer .prescaler; phase = timer .phase })) ⌝ }
-{
-    let kept = timer.prescaler as u16 <= 21 * timer.running as u16;
-    let clocks = 1u32 << (timer.prescaler % 32);
-    kept & ((timer.running <= timer.value) & (timer.phase < clocks))
-}
-
-// A checksum of eight bits is below 100h.
-fn checksum_formed(checksum: Checksum) -> bool
-    ensures { λ r. ⌜ r ≡ checksumFormed (record { register = checksum .register; mode = checksum .mode }) ⌝ }
-{
-    (checksum.mode / 16 % 2 == 0) | (checksum.register < 0x100)
-}
-
-// The state is well formed: the clauses of every state, then those of the active command.
-pub fn formed(core: Core) -> bool
-    ensures { λ r. ⌜ ((slots registers latch key eeprom : List ℕ) → length latch ≡ 16 → r ≡ (fieldsFormed core && wellFormed (viewOf core slots registers latch key eeprom))) ⌝ }
-{
-    let agree = bits_agree(core);
-    let bits = bits_formed(core.page, core.control, core.rx_last_bits);
-    let timer = timer_formed(core.timer);
-    let checksum = checksum_formed(core.checksum);
-    if !(agree & (bits & (timer & checksum))) {
-        return false;
-    }
-    activity_formed(core)
+    not_writing(core.command, writing)
 }

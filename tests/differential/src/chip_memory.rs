@@ -14,26 +14,19 @@ pub struct RingMemory {
 #[derive(Clone, Copy)]
 #[repr(C)]
 pub struct TimerMemory {
+    pub phase: u32,
+    pub prescaler: u16,
     pub running: u8,
     pub value: u8,
-    pub prescaler: u8,
-    pub phase: u32,
-}
-
-#[derive(Clone, Copy)]
-#[repr(C)]
-pub struct ChecksumMemory {
-    pub value: u16,
-    pub mode: u8,
 }
 
 #[derive(Clone, Copy)]
 #[repr(C)]
 pub struct WritingMemory {
-    pub addressed: u8,
-    pub next: u16,
-    pub latched: u8,
     pub left: u32,
+    pub next: u16,
+    pub addressed: u8,
+    pub latched: u8,
 }
 
 #[derive(Clone, Copy)]
@@ -46,20 +39,21 @@ pub struct InterruptsMemory {
 #[derive(Clone, Copy)]
 #[repr(C)]
 pub struct CoreMemory {
-    pub ring: RingMemory,
     pub timer: TimerMemory,
-    pub checksum: ChecksumMemory,
     pub writing: WritingMemory,
-    pub interrupts: InterruptsMemory,
+    pub crc_register: u16,
+    pub crc_mode: u8,
     pub page: u8,
-    pub command: u8,
-    pub sending: u8,
-    pub receiving: u8,
-    pub errors: u8,
     pub control: u8,
     pub rx_last_bits: u8,
     pub bit_framing: u8,
     pub key_loaded: u8,
+    pub ring: RingMemory,
+    pub interrupts: InterruptsMemory,
+    pub errors: u8,
+    pub command: u8,
+    pub sending: u8,
+    pub receiving: u8,
 }
 
 #[derive(Clone, Copy)]
@@ -74,15 +68,16 @@ pub struct ChipMemory {
 }
 
 /// Bytes of a chip.
-pub const SIZE: usize = 672;
+pub const SIZE: usize = 664;
 
 // The same assertions as in the header.
 const _: () = {
-    assert!(size_of::<CoreMemory>() == 40 && size_of::<ChipMemory>() == SIZE && align_of::<ChipMemory>() == 4);
-    assert!(offset_of!(CoreMemory, timer) == 4 && offset_of!(CoreMemory, checksum) == 12 && offset_of!(CoreMemory, writing) == 16);
-    assert!(offset_of!(CoreMemory, interrupts) == 28 && offset_of!(CoreMemory, page) == 30 && offset_of!(CoreMemory, key_loaded) == 38);
-    assert!(offset_of!(ChipMemory, slots) == 40 && offset_of!(ChipMemory, registers) == 104 && offset_of!(ChipMemory, latch) == 136);
-    assert!(offset_of!(ChipMemory, key) == 152 && offset_of!(ChipMemory, eeprom) == 158);
+    assert!(size_of::<CoreMemory>() == 32 && size_of::<ChipMemory>() == SIZE && align_of::<ChipMemory>() == 4);
+    assert!(offset_of!(CoreMemory, timer) == 0 && offset_of!(CoreMemory, writing) == 8 && offset_of!(CoreMemory, crc_register) == 16);
+    assert!(offset_of!(CoreMemory, page) == 19 && offset_of!(CoreMemory, ring) == 24 && offset_of!(CoreMemory, interrupts) == 26);
+    assert!(offset_of!(CoreMemory, errors) == 28 && offset_of!(CoreMemory, receiving) == 31);
+    assert!(offset_of!(ChipMemory, slots) == 32 && offset_of!(ChipMemory, registers) == 96 && offset_of!(ChipMemory, latch) == 128);
+    assert!(offset_of!(ChipMemory, key) == 144 && offset_of!(ChipMemory, eeprom) == 150);
 };
 
 /// Memory for a chip, as bytes: padding included, so that it can be filled, kept and compared whole.
@@ -104,34 +99,34 @@ impl Memory {
 
 /// The fields of the core with their places, for messages and for directed corruption. What no field covers is padding.
 pub const FIELDS: [(&str, usize, usize); 23] = [
-    ("ring.read", 0, 1),
-    ("ring.write", 1, 1),
-    ("timer.running", 4, 1),
-    ("timer.value", 5, 1),
-    ("timer.prescaler", 6, 1),
-    ("timer.phase", 8, 4),
-    ("checksum.value", 12, 2),
-    ("checksum.mode", 14, 1),
-    ("writing.addressed", 16, 1),
-    ("writing.next", 18, 2),
-    ("writing.latched", 20, 1),
-    ("writing.left", 24, 4),
-    ("interrupts.enables", 28, 1),
-    ("interrupts.requests", 29, 1),
-    ("page", 30, 1),
-    ("command", 31, 1),
-    ("sending", 32, 1),
-    ("receiving", 33, 1),
-    ("errors", 34, 1),
-    ("control", 35, 1),
-    ("rx_last_bits", 36, 1),
-    ("bit_framing", 37, 1),
-    ("key_loaded", 38, 1),
+    ("timer.phase", 0, 4),
+    ("timer.prescaler", 4, 2),
+    ("timer.running", 6, 1),
+    ("timer.value", 7, 1),
+    ("writing.left", 8, 4),
+    ("writing.next", 12, 2),
+    ("writing.addressed", 14, 1),
+    ("writing.latched", 15, 1),
+    ("crc_register", 16, 2),
+    ("crc_mode", 18, 1),
+    ("page", 19, 1),
+    ("control", 20, 1),
+    ("rx_last_bits", 21, 1),
+    ("bit_framing", 22, 1),
+    ("key_loaded", 23, 1),
+    ("ring.read", 24, 1),
+    ("ring.write", 25, 1),
+    ("interrupts.enables", 26, 1),
+    ("interrupts.requests", 27, 1),
+    ("errors", 28, 1),
+    ("command", 29, 1),
+    ("sending", 30, 1),
+    ("receiving", 31, 1),
 ];
 
 /// What a byte of the chip's memory belongs to, as a person reads it.
 pub fn place_name(offset: usize) -> String {
-    let arrays = [("eeprom", 158, 0), ("key", 152, 0), ("latch", 136, 0), ("registers", 104, 0x10), ("slots", 40, 0)];
+    let arrays = [("eeprom", 150, 0), ("key", 144, 0), ("latch", 128, 0), ("registers", 96, 0x10), ("slots", 32, 0)];
     if let Some((name, start, first)) = arrays.iter().find(|(_, start, _)| offset >= *start) {
         return format!("{name}[{:02X}h]", offset - start + first);
     }
@@ -164,7 +159,7 @@ pub fn plain_of<const FAULT: u8>(chip: &ChipMemory) -> Result<FaultyChip<FAULT>,
         let period = 1u32 << core.timer.prescaler;
         let full = FAULT == fault::FULL_PHASE_IS_WELL_FORMED && core.timer.phase == period;
         judge(core.timer.phase < period || full, "a phase of 2^prescaler or more")?;
-        Timer { value: core.timer.value, run: Some(Run { prescaler: core.timer.prescaler, phase: core.timer.phase }) }
+        Timer { value: core.timer.value, run: Some(Run { prescaler: core.timer.prescaler as u8, phase: core.timer.phase }) }
     } else {
         judge(core.timer.prescaler == 0 && core.timer.phase == 0, "a stopped timer with prescaler or phase")?;
         Timer { value: core.timer.value, run: None }
@@ -201,7 +196,7 @@ pub fn plain_of<const FAULT: u8>(chip: &ChipMemory) -> Result<FaultyChip<FAULT>,
     judge(sending == command.sends() && receiving == command.receives(), "sending or receiving disagrees with the command")?;
     judge(held <= command.waits(), "bytes wait that the command would take, or end over")?;
 
-    judge(core.checksum.mode & 0x10 == 0 || core.checksum.value < 0x100, "a CRC8 checksum of 100h or above")?;
+    judge(core.crc_mode & 0x10 == 0 || core.crc_register < 0x100, "a CRC8 checksum of 100h or above")?;
     judge(core.interrupts.enables & !request::ALL == 0, "InterruptEn bits that read 0")?;
     judge(core.interrupts.requests & !request::ALL == 0, "InterruptRq bits that read 0")?;
     judge(core.page & !0x87 == 0, "Page bits that read 0")?;
@@ -219,7 +214,7 @@ pub fn plain_of<const FAULT: u8>(chip: &ChipMemory) -> Result<FaultyChip<FAULT>,
         timer,
         command,
         latch: chip.latch,
-        checksum: Checksum { value: core.checksum.value, mode: core.checksum.mode },
+        checksum: Checksum { value: core.crc_register, mode: core.crc_mode },
         page: core.page,
         enables: core.interrupts.enables,
         requests: core.interrupts.requests,
@@ -265,8 +260,8 @@ pub fn difference<const FAULT: u8>(plain: &FaultyChip<FAULT>, chip: &ChipMemory,
         ("timer.value", u32::from(plain.timer.value), u32::from(core.timer.value)),
         ("timer.prescaler", u32::from(run.prescaler), u32::from(core.timer.prescaler)),
         ("timer.phase", run.phase, core.timer.phase),
-        ("checksum.value", u32::from(plain.checksum.value), u32::from(core.checksum.value)),
-        ("checksum.mode", u32::from(plain.checksum.mode), u32::from(core.checksum.mode)),
+        ("crc_register", u32::from(plain.checksum.value), u32::from(core.crc_register)),
+        ("crc_mode", u32::from(plain.checksum.mode), u32::from(core.crc_mode)),
         ("writing.addressed", u32::from(addressed), u32::from(core.writing.addressed)),
         ("writing.next", u32::from(next.unwrap_or(core.writing.next)), u32::from(core.writing.next)),
         ("writing.latched", u32::from(latched), u32::from(core.writing.latched)),
@@ -326,10 +321,10 @@ pub fn store<const FAULT: u8>(plain: &FaultyChip<FAULT>, position: u8, chip: &mu
     core.ring = RingMemory { read: position, write: position.wrapping_add(plain.fifo.held()) };
     core.timer.running = u8::from(run.is_some());
     core.timer.value = plain.timer.value;
-    core.timer.prescaler = run.map_or(0, |run| run.prescaler);
+    core.timer.prescaler = run.map_or(0, |run| u16::from(run.prescaler));
     core.timer.phase = run.map_or(0, |run| run.phase);
-    core.checksum.value = plain.checksum.value;
-    core.checksum.mode = plain.checksum.mode;
+    core.crc_register = plain.checksum.value;
+    core.crc_mode = plain.checksum.mode;
     let (addressed, next, latched, left) = match plain.command {
         Command::WriteE2(Writing::Ready { next }) => (1, next, 0, 0),
         Command::WriteE2(Writing::Programming { next, latched, left }) => (1, next, latched, left),

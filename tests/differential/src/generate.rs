@@ -528,13 +528,12 @@ impl Generator {
     fn forge(&mut self, edits: &mut Vec<(u16, u8)>) {
         let random = &mut self.random;
         let mut put = |name: &str, value: u32| {
-            if let Some((_, start, length)) = FIELDS.iter().find(|(field, ..)| *field == name) {
-                edits.extend((0..*length).map(|place| ((start + place) as u16, (value >> (8 * place)) as u8)));
-            }
+            let (_, start, length) = FIELDS.iter().find(|(field, ..)| *field == name).unwrap_or_else(|| panic!("no field {name}"));
+            edits.extend((0..*length).map(|place| ((start + place) as u16, (value >> (8 * place)) as u8)));
         };
         match random.below(9) {
             0 | 1 => {
-                let prescaler = random.of(&[0, 0, 1, 2, 5, 12, 20, 21, 21, 22, 31, 32, 255]);
+                let prescaler = random.of(&[0, 0, 1, 2, 5, 12, 20, 21, 21, 22, 31, 32, 255, 256, 0x0105, 0xFFFF]);
                 let period = 1u32.checked_shl(prescaler).unwrap_or(0);
                 put("timer.running", random.of(&[1, 1, 1, 1, 1, 1, 2, 255, 0]));
                 put("timer.value", random.of(&[0, 1, 1, 1, 2, 3, 100, 255]));
@@ -606,9 +605,9 @@ impl Generator {
                 put("errors", u32::from(random.byte() & 0x7A));
             }
             7 => {
-                put("checksum.mode", u32::from(random.byte()));
+                put("crc_mode", u32::from(random.byte()));
                 let value = random.of(&[random.clone().byte() as u32, random.clone().number() as u32, 0xFF, 0x100]);
-                put("checksum.value", value);
+                put("crc_register", value);
             }
             _ => {
                 let (name, mask) = random.of(&[

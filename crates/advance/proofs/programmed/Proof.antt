@@ -9,7 +9,7 @@ use Rattle.machine.specs.Commands.{raisedTx, writeStepped}
 use Rattle.machine.specs.Events.{batchStored}
 use Rattle.chip.specs.View.{viewOf}
 use Rattle.fifo.proofs.RingLaws.{ring-length}
-use Rattle.commands.proofs.WriteLaws.{ready-agrees, next-below}
+use Rattle.write_e2.proofs.WriteLaws.{ready-agrees, next-below}
 use Rattle.advance.proofs.AdvanceLaws.{startOf, batchOf, batch-next, batch-stored, end-waits, end-latches}
 use Rattle.advance.proofs.programmed.Statement.{statement}
 use Rattle.advance.proofs.programmed.Tie as tie

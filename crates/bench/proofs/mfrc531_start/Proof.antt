@@ -1,4 +1,4 @@
--- `bench::mfrc531_start` meets its contract, by the walk that every entry point has (`InPlace.antt`), since `parts::start` meets its own. Assumes nothing.
+-- `bench::mfrc531_start` meets its contract, by the walk that every entry point has (`InPlace.antt`), since `event_start::start` meets its own. Assumes nothing.
 use mathlib.Core.List.{[], _∷_}
 use prog.Wp
 use contract.Running.{givenOf, tables, tablesOf}
@@ -6,9 +6,9 @@ use denote.Triple.Spec.{tripleOf}
 use denote.Triple.Table.{entered, cited}
 use Rattle.machine.specs.Refusals.{start}
 use Rattle.chip.specs.Meets.{Meets}
-use Rattle.events.proofs.parts.start as g
-use Rattle.events.proofs.parts.start.Symbol as event
-use Rattle.events.proofs.parts.start.Met as event-thm
+use Rattle.event_start.proofs.start as g
+use Rattle.event_start.proofs.start.Symbol as event
+use Rattle.event_start.proofs.start.Met as event-thm
 use Rattle.bench.proofs.Beside.{shared}
 use Rattle.bench.proofs.InPlace.{meets}
 use Rattle.bench.proofs.mfrc531_start.Key as key
@@ -24,4 +24,4 @@ mfrc531-start-spec 𝓤 H 𝓜 𝓖 𝓡 =
     (meets event.name 1 (shared 0 tt ∷ []) 𝓤 H (𝓖 .A) (λ κs h a h′ ws r. Meets h (start (a .0 .now)) h′ r [])
     (givenOf 𝓤 H 𝓜 𝓖) (tablesOf 𝓤 H 𝓜 (tables 𝓤 H 𝓜 𝓡 code.env))
     (cited 𝓤 H (tripleOf 𝓤 H (𝓖 .A) g.signature (g.spec 𝓤 H (𝓖 .A) (𝓜 .mem) (𝓡 .run)))
-    𝓜 𝓡 code.env event.name event.routine code.calls-events·parts·start (event-thm.met 𝓤 H 𝓜 𝓖 𝓡)))
+    𝓜 𝓡 code.env event.name event.routine code.calls-event-start·start (event-thm.met 𝓤 H 𝓜 𝓖 𝓡)))

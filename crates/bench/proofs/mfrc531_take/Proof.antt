@@ -1,4 +1,4 @@
--- `bench::mfrc531_take` meets its contract, by the walk that every entry point has (`InPlace.antt`), since `parts::take` meets its own. Assumes nothing.
+-- `bench::mfrc531_take` meets its contract, by the walk that every entry point has (`InPlace.antt`), since `event_take::take` meets its own. Assumes nothing.
 use mathlib.Core.List.{[], _∷_}
 use prog.Wp
 use contract.Running.{givenOf, tables, tablesOf}
@@ -6,9 +6,9 @@ use denote.Triple.Spec.{tripleOf}
 use denote.Triple.Table.{entered, cited}
 use Rattle.machine.specs.Refusals.{takeFrame}
 use Rattle.chip.specs.Meets.{Meets}
-use Rattle.events.proofs.parts.take as g
-use Rattle.events.proofs.parts.take.Symbol as event
-use Rattle.events.proofs.parts.take.Met as event-thm
+use Rattle.event_take.proofs.take as g
+use Rattle.event_take.proofs.take.Symbol as event
+use Rattle.event_take.proofs.take.Met as event-thm
 use Rattle.bench.proofs.Beside.{lent}
 use Rattle.bench.proofs.InPlace.{meets}
 use Rattle.bench.proofs.mfrc531_take.Key as key
@@ -24,4 +24,4 @@ mfrc531-take-spec 𝓤 H 𝓜 𝓖 𝓡 =
     (meets event.name 1 (lent 0 tt ∷ []) 𝓤 H (𝓖 .A) (λ κs h a h′ ws r. Meets h (takeFrame (a .0 .now)) h′ r (ws .0))
     (givenOf 𝓤 H 𝓜 𝓖) (tablesOf 𝓤 H 𝓜 (tables 𝓤 H 𝓜 𝓡 code.env))
     (cited 𝓤 H (tripleOf 𝓤 H (𝓖 .A) g.signature (g.spec 𝓤 H (𝓖 .A) (𝓜 .mem) (𝓡 .run)))
-    𝓜 𝓡 code.env event.name event.routine code.calls-events·parts·take (event-thm.met 𝓤 H 𝓜 𝓖 𝓡)))
+    𝓜 𝓡 code.env event.name event.routine code.calls-event-take·take (event-thm.met 𝓤 H 𝓜 𝓖 𝓡)))

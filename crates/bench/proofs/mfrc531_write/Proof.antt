@@ -1,4 +1,4 @@
--- `bench::mfrc531_write` meets its contract, by the walk that every entry point has (`InPlace.antt`), since `parts::host_write` meets its own. Assumes nothing.
+-- `bench::mfrc531_write` meets its contract, by the walk that every entry point has (`InPlace.antt`), since `event_write::host_write` meets its own. Assumes nothing.
 use mathlib.Core.List.{[], _∷_}
 use mir.Syntax.{w8}
 use prog.Wp
@@ -7,9 +7,9 @@ use denote.Triple.Spec.{tripleOf}
 use denote.Triple.Table.{entered, cited}
 use Rattle.machine.specs.Refusals.{hostWrite}
 use Rattle.chip.specs.Meets.{Meets}
-use Rattle.events.proofs.parts.host_write as g
-use Rattle.events.proofs.parts.host_write.Symbol as event
-use Rattle.events.proofs.parts.host_write.Met as event-thm
+use Rattle.event_write.proofs.host_write as g
+use Rattle.event_write.proofs.host_write.Symbol as event
+use Rattle.event_write.proofs.host_write.Met as event-thm
 use Rattle.bench.proofs.Beside.{scalar}
 use Rattle.bench.proofs.InPlace.{meets}
 use Rattle.bench.proofs.mfrc531_write.Key as key
@@ -25,4 +25,4 @@ mfrc531-write-spec 𝓤 H 𝓜 𝓖 𝓡 =
     (meets event.name 0 (scalar w8 ∷ scalar w8 ∷ []) 𝓤 H (𝓖 .A) (λ κs h a h′ ws r. Meets h (hostWrite (a .0) (a .1 .0)) h′ r [])
     (givenOf 𝓤 H 𝓜 𝓖) (tablesOf 𝓤 H 𝓜 (tables 𝓤 H 𝓜 𝓡 code.env))
     (cited 𝓤 H (tripleOf 𝓤 H (𝓖 .A) g.signature (g.spec 𝓤 H (𝓖 .A) (𝓜 .mem) (𝓡 .run)))
-    𝓜 𝓡 code.env event.name event.routine code.calls-events·parts·host-write (event-thm.met 𝓤 H 𝓜 𝓖 𝓡)))
+    𝓜 𝓡 code.env event.name event.routine code.calls-event-write·host-write (event-thm.met 𝓤 H 𝓜 𝓖 𝓡)))

@@ -5,7 +5,7 @@ use Prim.Native.Nat.{ℕ}
 use mathlib.Core.Path.{ap, _∙_}
 use mathlib.Core.List.{[]}
 use Rattle.crc.specs.Checksum.{absorbedAll}
-use Rattle.machine.specs.State.{withChecksum, withHeld}
+use Rattle.machine.specs.State.{Machine, withChecksum, withHeld}
 use Rattle.chip.specs.View.{viewOf, heldFrom}
 use Rattle.crc_unit.proofs.taken.Statement.{statement}
 use Rattle.crc_unit.proofs.taken.Tie as tie
@@ -22,13 +22,13 @@ emptied-requires c κs = search needs
 returns : tie.Need-returns
 unfolding viewOf
 returns c =
-    let a = c .before .before .before .before .before .args in
-    let unit = a .core .checksum in (
+    let a = c .before .before .before .args in
+    let core = a .core in (
       λ registers latch key eeprom.
-          let m = viewOf (a .core) (now (a .slots)) registers latch key eeprom in
-          ap (withChecksum (record { register = c .before .absorbed .result; mode = unit .mode })) (c .emptied .ensures .0 (now (a .slots)) registers latch key eeprom)
-          ∙ ap (λ (n : ℕ). withChecksum (record { register = n; mode = unit .mode }) (withHeld [] m))
-          (c .before .absorbed .ensures ∙ ap (λ (n : ℕ). absorbedAll (unit .mode) (unit .register) (heldFrom (now (a .slots)) (a .core .ring .read) n)) (c .before .before .held .ensures)),
+          let m = viewOf core (now (a .slots)) registers latch key eeprom in
+          ap (λ (x : Machine). withChecksum (record { register = c .before .absorbed .result; mode = x .checksum .mode }) x) (c .emptied .ensures .0 (now (a .slots)) registers latch key eeprom)
+          ∙ ap (λ (n : ℕ). withChecksum (record { register = n; mode = core .«crc_mode» }) (withHeld [] m))
+          (c .before .absorbed .ensures ∙ ap (λ (n : ℕ). absorbedAll (core .«crc_mode») (core .«crc_register») (heldFrom (now (a .slots)) (core .ring .read) n)) (c .before .before .held .ensures)),
       c .emptied .ensures .1,
     )
 

@@ -24,18 +24,19 @@ requested-requires-2 c κs = search needs
 returns : tie.Need-returns
 unfolding viewOf
 returns c =
-    let call-high = c .before in
+    let second = c .before in
+    let call-high = second .before in
     let first = call-high .before in
     let call-low = first .before in
-    let a = call-low .before .before .args in
+    let a = call-low .before .args in
     let low = not (a .was-low) && call-low .low .result in
     let high = not (a .was-high) && call-high .high .result in (
       λ b was-low was-high slots latch key eeprom.
           let after = viewOf (a .core) slots (a .registers .now) latch key eeprom in
           ap (λ (r : Interrupts). withRequests r after)
-          (alerts-marked low high (a .core .interrupts .requests) (first .requested .result) (c .requested2 .result) (first .requested .ensures) (c .requested2 .ensures))
+          (alerts-marked low high (a .core .interrupts .requests) (first .requested .result) (second .requested2 .result) (first .requested .ensures) (second .requested2 .ensures))
           ∙ alerted-newly b after low high (newly was-low (call-low .low .ensures slots latch key eeprom)) (newly was-high (call-high .high .ensures slots latch key eeprom)),
-      keep-marked (a .core) low high 0x01 0x02 (first .requested .result) (c .requested2 .result) refl refl (first .requested .ensures) (c .requested2 .ensures),
+      keep-marked (a .core) low high 0x01 0x02 (first .requested .result) (second .requested2 .result) refl refl (first .requested .ensures) (second .requested2 .ensures),
     )
 
 pub alerted-spec : {M : Type 1} → statement M

@@ -23,7 +23,7 @@ element-copy-out-result c = search needs
 
 returns : tie.Need-returns
 returns c =
-    let a = c .before .before .before .before .before .args in
+    let a = c .before .before .before .before .args in
     let slot : c .before .wrapping-add-u8 .result % 64 ≡ (a .core .ring .read + a .k) % 64 = omega arith in
     ap (λ (i : ℕ). getD (a .slots .now) i 0) slot
     ∙ sym (held-at (a .slots .now) (a .core .ring .read) (heldCount (a .core .ring)) (a .k) (omega arith))

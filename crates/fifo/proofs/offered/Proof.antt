@@ -42,11 +42,12 @@ returns-2 : tie.Need-returns-2
 unfolding viewOf
 returns-2 c =
     let a = c .before .before .before .before .before .args in
+    let known = c .before .before .struct-known .given in
     let ring = a .core .ring in (
       λ whole registers latch key eeprom.
           let before = viewOf (a .core) (a .slots .now) registers latch key eeprom in
           ap (λ (l : List ℕ). withHeld l before)
-          (ring-stored ring (a .slots .now) (omega arith) (omega arith) (a .byte) (c .wrapping-add-u8 .result) (omega arith) whole (c .wrapping-add-u8 .ensures))
+          (ring-stored ring (a .slots .now) (omega (arith, known)) (omega (arith, known)) (a .byte) (c .before .wrapping-add-u8 .result) (omega arith) whole (c .before .wrapping-add-u8 .ensures))
           ∙ sym (offer-stored (a .byte) before (rw (ring-length ring (a .slots .now)) (omega arith))),
       (length-set (a .slots .now) (ring .write % 64) (a .byte), λ agrees. agrees),
     )

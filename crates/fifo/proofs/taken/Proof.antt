@@ -37,7 +37,7 @@ returns-2 c =
     let a = c .before .before .before .before .args in (
       λ slots registers latch key eeprom.
           ap (λ (l : List ℕ). withHeld l (viewOf (a .core) slots registers latch key eeprom))
-          (ring-taken (a .core .ring) slots (omega arith) (omega arith) (a .count) (c .wrapping-add-u8 .result) (omega arith) (c .wrapping-add-u8 .ensures)),
+          (ring-taken (a .core .ring) slots (omega arith) (omega arith) (a .count) (c .before .wrapping-add-u8 .result) (omega arith) (c .before .wrapping-add-u8 .ensures)),
       λ agrees. agrees,
     )
 

@@ -13,7 +13,7 @@ raised-idle-requires c κs = search needs
 returns : tie.Need-returns
 unfolding viewOf
 returns c =
-    let next = c .raised-idle in (
+    let next = c .before .before .before .before .raised-idle in (
       λ slots registers latch key eeprom. ap (withCommand Idle) (next .ensures .0 slots registers latch key eeprom),
       λ agrees. keep-command-idle (next .result) (next .ensures .1 agrees),
     )

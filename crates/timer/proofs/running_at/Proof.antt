@@ -7,7 +7,7 @@ use Rattle.timer.proofs.running_at.Tie as tie
 
 returns : tie.Need-returns
 unfolding viewOf
-returns c = (λ slots registers latch key eeprom. refl, keep-timer (c .args .core) 1 refl)
+returns c = (λ slots registers latch key eeprom. refl, keep-timer (c .before .before .before .before .args .core) 1 refl)
 
 pub running-at-spec : {M : Type 1} → statement M
 running-at-spec = tie.close (tie.spec returns)

@@ -26,6 +26,9 @@ sub-prescaler c = search needs
 element-copy-out-prescaler : tie.Need-element-copy-out-prescaler
 element-copy-out-prescaler c = search needs
 
+cast-prescaler : tie.Need-cast-prescaler
+cast-prescaler c = search needs
+
 stopped-at-requires-2 : tie.Need-stopped-at-requires-2
 stopped-at-requires-2 c κs = search needs
 
@@ -56,6 +59,7 @@ started-spec =
     returns
     sub-prescaler
     element-copy-out-prescaler
+    cast-prescaler
     stopped-at-requires-2
     returns-2
     running-at-requires

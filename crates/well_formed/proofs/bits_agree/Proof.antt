@@ -7,15 +7,15 @@ use Rattle.well_formed.proofs.bits_agree.Tie as tie
 
 returns : tie.Need-returns
 returns c =
-    let core = c .before .before .before .before .before .before .before .args .core in
-    -- What is known of the fields from ErrorFlag on.
-    let known = c .struct-known5 .given .1 .1 .1 .1 .1 .1 .1 .1 .1 in
+    let core = c .before .before .before .before .before .args .core in
+    -- What is known of the fields from the key's flag on.
+    let known = c .struct-known5 .given .1 .1 .1 .1 .1 .1 .1 .1 in
     simp (
       interrupt-bits (core .interrupts .enables) (omega arith),
       interrupt-bits (core .interrupts .requests) (omega arith),
-      error-bits (core .errors) (omega (arith, known .0)),
+      error-bits (core .errors) (omega (arith, known .1 .1 .1 .0)),
       flag-bits (core .timer .running) (omega arith),
-      flag-bits (core .«key_loaded») (omega (arith, known .1 .1 .1 .1 .0)),
+      flag-bits (core .«key_loaded») (omega (arith, known .0)),
       and-assoc,
     )
 

@@ -7,8 +7,7 @@ use Rattle.well_formed.proofs.checksum_formed.Statement.{statement}
 use Rattle.well_formed.proofs.checksum_formed.Tie as tie
 
 returns : tie.Need-returns
-returns c =
-    let k = c .before .before .args .checksum in where-set (k .mode / 16 % 2) (ltb (k .register) 0x100) (omega arith)
+returns c = let a = c .args in where-set (a .mode / 16 % 2) (ltb (a .register) 0x100) (omega arith)
 
 pub checksum-formed-spec : {M : Type 1} → statement M
 checksum-formed-spec = tie.close (tie.spec returns)

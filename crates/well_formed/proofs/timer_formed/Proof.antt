@@ -8,9 +8,6 @@ use Rattle.well_formed.proofs.timer_formed.Tie as tie
 cast-kept : tie.Need-cast-kept
 cast-kept c = search needs
 
-cast-kept-2 : tie.Need-cast-kept-2
-cast-kept-2 c = search needs
-
 mul-kept : tie.Need-mul-kept
 mul-kept c = search needs
 
@@ -26,4 +23,4 @@ returns c flag =
 
 pub timer-formed-spec : {M : Type 1} → statement M
 timer-formed-spec =
-    tie.close (tie.spec cast-kept cast-kept-2 mul-kept cast-clocks shl-clocks returns)
+    tie.close (tie.spec cast-kept mul-kept cast-clocks shl-clocks returns)

@@ -1,30 +1,33 @@
--- `well_formed::write_e2_formed` meets its contract, clause by clause. Assumes nothing.
-use mathlib.Core.Path.{ap}
-use lib.Dec.{leb}
-use Rattle.well_formed.proofs.FormedLaws.{few-agreed}
-use Rattle.well_formed.proofs.JudgeLaws.{write-e2}
-use Rattle.chip.specs.View.{flowAgrees, writingAgrees}
+-- `well_formed::write_e2_formed` meets its contract, by whether WriteE2 is active. Assumes nothing.
+use mathlib.Core.Bool.{and-true}
+use borrow.Author.Tests.{ne-eqb}
 use borrow.Author.Needs.{needs}
 use Rattle.well_formed.proofs.write_e2_formed.Statement.{statement}
 use Rattle.well_formed.proofs.write_e2_formed.Tie as tie
 
-writing-agrees-requires : tie.Need-writing-agrees-requires
-writing-agrees-requires c κs = search needs
+held-requires : tie.Need-held-requires
+held-requires c κs = search needs
 
-writing-waits-requires : tie.Need-writing-waits-requires
-writing-waits-requires c κs = search needs
-
-writing-formed-requires : tie.Need-writing-formed-requires
-writing-formed-requires c κs = search needs
+active-formed-requires : tie.Need-active-formed-requires
+active-formed-requires c κs = search needs
 
 returns : tie.Need-returns
-returns c latch sixteen =
-    let a = c .before .before .before .args in
-    write-e2 (flowAgrees 0x01 (a .sending) (a .receiving)) (leb (a .held) 64) (writingAgrees 0x01 (a .writing)) (c .before .before .writing-agrees .ensures)
-    (λ agree. c .writing-formed .ensures latch sixteen (few-agreed 0x01 (a .writing) agree))
-    (ap (leb (a .held)) (c .before .writing-waits .ensures latch))
+returns c latch sixteen = simp (c .active-formed .ensures latch sixteen, c .before .held .ensures, c .before .before .if1 .taken)
+
+not-writing-requires : tie.Need-not-writing-requires
+not-writing-requires c κs = search needs
+
+returns-2 : tie.Need-returns-2
+returns-2 c latch sixteen =
+    let other = c .before .if1 .left in
+    simp (c .not-writing .ensures other, ne-eqb _ 0x01 other, and-true)
 
 pub write-e2-formed-spec : {M : Type 1} → statement M
 write-e2-formed-spec =
     tie.close
-    (tie.spec writing-agrees-requires writing-waits-requires writing-formed-requires returns)
+    (tie.spec
+    held-requires
+    active-formed-requires
+    returns
+    not-writing-requires
+    returns-2)

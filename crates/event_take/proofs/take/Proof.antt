@@ -1,0 +1,124 @@
+-- `event_take::take` meets its contract, by the refusals in their order. Assumes nothing.
+use borrow.Author.Needs.{needs}
+use denote.Ref.{now}
+use native.Mathlib.Omega.{arith}
+use mathlib.Core.Path.{sym, _∙_}
+use mathlib.Core.Bool.{true, false}
+use Rattle.machine.specs.Refusals.{takeFrame}
+use Rattle.chip.specs.View.{view, viewOf}
+use Rattle.chip.specs.Meets.{assembled}
+use Rattle.chip.specs.declared.Chip.{Chip}
+use Rattle.fifo.proofs.RingLaws.{ring-length}
+use Rattle.event_take.proofs.TakeLaws.{take-turns, take-fills, take-answer}
+use Rattle.events.proofs.MeetLaws.{refused, malformed, judged, take-short, take-judged, own-fields-formed, few-held, accepted-here}
+use Rattle.events.proofs.TypeLaws.{known-bytes}
+use Rattle.event_take.proofs.take.Statement.{statement}
+use Rattle.event_take.proofs.take.Tie as tie
+
+status-formed-requires : tie.Need-status-formed-requires
+status-formed-requires c κs = search needs
+
+command-formed-requires : tie.Need-command-formed-requires
+command-formed-requires c κs = search needs
+
+write-e2-formed-requires : tie.Need-write-e2-formed-requires
+write-e2-formed-requires c κs = search needs
+
+frame-waits-requires : tie.Need-frame-waits-requires
+frame-waits-requires c κs = search needs
+
+frame-into-requires : tie.Need-frame-into-requires
+frame-into-requires c κs = search needs
+
+cast-answer : tie.Need-cast-answer
+cast-answer c = search needs
+
+mul-answer : tie.Need-mul-answer
+mul-answer c = search needs
+
+cast-answer-2 : tie.Need-cast-answer-2
+cast-answer-2 c = search needs
+
+mul-answer-2 : tie.Need-mul-answer-2
+mul-answer-2 c = search needs
+
+add-answer : tie.Need-add-answer
+add-answer c = search needs
+
+frame-left-requires : tie.Need-frame-left-requires
+frame-left-requires c κs = search needs
+
+same-length : tie.Need-same-length
+same-length c = search needs
+
+abbrev at-entry : tie.Start → Chip
+at-entry s = let a = s .args in assembled (a .core) (now (a .slots)) (now (a .registers)) (now (a .latch)) (now (a .key)) (now (a .eeprom))
+
+returns : tie.Need-returns
+unfolding viewOf
+returns c whole =
+    let place = c .before .before .before .before .before .before .before .before .before .before .before .before .before in
+    let a = place .before .before .before .before .args in
+    let old = at-entry (place .before .before .before .before) in
+    let buffer = now (a .buffer) in
+    let formed = judged old whole (place .before .before .status-formed .ensures) (place .before .command-formed .ensures) (place .write-e2-formed .ensures) true (c .before .before .before .before .before .before .before .before .before .before .before .before .if1 .taken) in
+    let few = few-held old formed in
+    let fills = c .before .before .before .before .before .frame-into in
+    let room = c .before .before .before .before .before .before .before .before .before .before .before .if2 .taken in
+    let (count, bytes) = fills .ensures .0 (omega (arith, few, ring-length (a .core .ring) (now (a .slots)))) room (now (a .latch)) (now (a .key)) (now (a .eeprom)) in
+    let next = assembled (c .frame-left .result) (now (a .slots)) (now (a .registers)) (now (a .latch)) (now (a .key)) (now (a .eeprom)) in
+    accepted-here old formed (takeFrame buffer) next _ (fills .last .1 .1 .1 .0) (known-bytes buffer (place .before .before .before .slice-known .given)) whole
+    (take-judged old formed buffer room (c .before .before .before .before .before .before .before .before .before .before .frame-waits .ensures) true (c .before .before .before .before .before .before .before .before .before .if3 .taken))
+    (record {
+      answered = take-answer (view old) (fills .result) few count;
+      turned = c .frame-left .ensures .0 (now (a .slots)) (now (a .latch)) (now (a .key)) (now (a .eeprom)) ∙ take-turns (view old);
+      lent = bytes ∙ take-fills (view old) buffer;
+      fields = c .frame-left .ensures .1 (own-fields-formed old formed);
+      slot-count = whole .slot-count;
+      latch-count = whole .latch-count;
+    })
+
+returns-2 : tie.Need-returns-2
+returns-2 c whole =
+    let place = c .before .before .before .before in
+    let old = at-entry (place .before .before .before .before) in
+    let buffer = now (place .before .before .before .before .args .buffer) in
+    let formed = judged old whole (place .before .before .status-formed .ensures) (place .before .command-formed .ensures) (place .write-e2-formed .ensures) true (c .before .before .before .if1 .taken) in
+    let number = take-judged old formed buffer (c .before .before .if2 .taken) (c .before .frame-waits .ensures) false (c .if3 .left) in
+    refused old (takeFrame buffer) 3 (number .0) whole
+
+returns-3 : tie.Need-returns-3
+returns-3 c whole =
+    let place = c .before .before in
+    let old = at-entry (place .before .before .before .before) in
+    let buffer = now (place .before .before .before .before .args .buffer) in
+    let formed = judged old whole (place .before .before .status-formed .ensures) (place .before .command-formed .ensures) (place .write-e2-formed .ensures) true (c .before .if1 .taken) in
+    let number = take-short old formed buffer (omega (arith, c .if2 .left)) in
+    refused old (takeFrame buffer) 5 (number .0) whole
+
+returns-4 : tie.Need-returns-4
+returns-4 c whole =
+    let s = c .before .before .before .before .before in
+    let old = at-entry s in
+    malformed old (takeFrame (now (s .args .buffer))) tt (judged old whole (c .before .before .before .status-formed .ensures) (c .before .before .command-formed .ensures) (c .before .write-e2-formed .ensures) false (c .if1 .left)) whole
+
+pub take-spec : {M : Type 1} → statement M
+take-spec =
+    tie.close
+    (tie.spec
+    status-formed-requires
+    command-formed-requires
+    write-e2-formed-requires
+    frame-waits-requires
+    frame-into-requires
+    cast-answer
+    mul-answer
+    cast-answer-2
+    mul-answer-2
+    add-answer
+    frame-left-requires
+    same-length
+    returns
+    returns-2
+    returns-3
+    returns-4)

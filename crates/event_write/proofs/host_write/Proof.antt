@@ -1,0 +1,77 @@
+-- `event_write::host_write` meets its contract, by the refusals in their order. Assumes nothing.
+use borrow.Author.Needs.{needs}
+use borrow.Author.Tests.{lt-ltb, le-ltb}
+use denote.Ref.{now}
+use native.Mathlib.Omega.{arith}
+use mathlib.Core.Path.{refl, ap, _∙_}
+use mathlib.Core.Bool.{Bool, true, false}
+use mathlib.Core.List.{[]}
+use Rattle.machine.specs.Refusals.{hostWrite, refuseIf}
+use Rattle.chip.specs.View.{view, viewOf}
+use Rattle.chip.specs.Meets.{assembled}
+use Rattle.chip.specs.declared.Chip.{Chip}
+use Rattle.event_write.proofs.WriteLaws.{write-turns}
+use Rattle.events.proofs.MeetLaws.{refused, malformed, judged, write-refusal, own-fields-formed, accepted-here}
+use Rattle.event_write.proofs.host_write.Statement.{statement}
+use Rattle.event_write.proofs.host_write.Tie as tie
+
+status-formed-requires : tie.Need-status-formed-requires
+status-formed-requires c κs = search needs
+
+command-formed-requires : tie.Need-command-formed-requires
+command-formed-requires c κs = search needs
+
+write-e2-formed-requires : tie.Need-write-e2-formed-requires
+write-e2-formed-requires c κs = search needs
+
+mapped-requires : tie.Need-mapped-requires
+mapped-requires c κs = search needs
+
+written-requires : tie.Need-written-requires
+written-requires c κs = search needs
+
+abbrev at-entry : tie.Start → Chip
+at-entry s = let a = s .args in assembled (a .core) (now (a .slots)) (now (a .registers)) (now (a .latch)) (now (a .key)) (now (a .eeprom))
+
+returns : tie.Need-returns
+unfolding viewOf
+returns c whole =
+    let place = c .before .before .before .before .before .before .before .before .before in
+    let a = place .before .before .before .args in
+    let old = at-entry (place .before .before .before) in
+    let formed = judged old whole (place .before .before .status-formed .ensures) (place .before .command-formed .ensures) (place .write-e2-formed .ensures) true (c .before .before .before .before .before .before .before .before .if1 .taken) in
+    let agrees = own-fields-formed old formed in
+    let wrote = c .written in
+    let next = assembled (wrote .result) (wrote .last .1 .0) (wrote .last .1 .1 .0) (wrote .last .1 .1 .1 .0) (wrote .last .1 .1 .1 .1 .0) (now (a .eeprom)) in
+    accepted-here old formed (hostWrite (a .address) (a .v)) next 0 [] (place .before .before .before .fits .v .fits) whole
+    (write-refusal old formed (a .address) (a .v) 0 (ap (λ (t : Bool). refuseIf t 1 0) (le-ltb 63 (a .address) (omega (arith, c .before .before .before .before .before .before .before .if2 .taken)))))
+    (record {
+      answered = refl;
+      turned =
+          wrote .ensures .0 agrees (whole .slot-count) (whole .sized .register-count) (whole .latch-count) (whole .sized .eeprom-count)
+          ∙ write-turns (a .address) _ (a .v) (view old) (c .before .before .before .before .before .before .mapped .ensures);
+      lent = refl;
+      fields = wrote .ensures .1 .1 agrees;
+      slot-count = wrote .ensures .1 .0 .0 ∙ whole .slot-count;
+      latch-count = wrote .ensures .1 .0 .1 ∙ whole .latch-count;
+    })
+
+returns-2 : tie.Need-returns-2
+returns-2 c whole =
+    let place = c .before .before in
+    let a = place .before .before .before .args in
+    let old = at-entry (place .before .before .before) in
+    let formed = judged old whole (place .before .before .status-formed .ensures) (place .before .command-formed .ensures) (place .write-e2-formed .ensures) true (c .before .if1 .taken) in
+    let number = write-refusal old formed (a .address) (a .v) 1 (ap (λ (t : Bool). refuseIf t 1 0) (lt-ltb 63 (a .address) (omega (arith, c .if2 .left)))) in
+    refused old (hostWrite (a .address) (a .v)) 0 (number .0) whole
+
+returns-3 : tie.Need-returns-3
+returns-3 c whole =
+    let s = c .before .before .before .before in
+    let old = at-entry s in
+    malformed old (hostWrite (s .args .address) (s .args .v)) tt (judged old whole (c .before .before .before .status-formed .ensures) (c .before .before .command-formed .ensures) (c .before .write-e2-formed .ensures) false (c .if1 .left)) whole
+
+pub host-write-spec : {M : Type 1} → statement M
+host-write-spec =
+    tie.close
+    (tie.spec status-formed-requires command-formed-requires write-e2-formed-requires mapped-requires written-requires returns returns-2 returns-3)

@@ -1,3 +1,0 @@
-pub mod CommandLaws
-pub mod ReadingLaws
-pub mod WriteLaws

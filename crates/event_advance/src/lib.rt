@@ -23,7 +23,7 @@ pub fn advance<'a>(
 {
     let mut next = core;
     let mut answer: u32 = 7;
-    if status_formed(core) & (command_formed(core) & write_e2_formed(core)) {
+    if status_formed(core) && command_formed(core) && write_e2_formed(core) {
         answer = 3;
         if clocks < 65_536 {
             answer = 0;

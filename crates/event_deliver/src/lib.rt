@@ -56,7 +56,7 @@ pub fn deliver<'a, 'b, 'c>(
 {
     let mut next = core;
     let mut answer: u32 = 7;
-    if status_formed(core) & (command_formed(core) & write_e2_formed(core)) {
+    if status_formed(core) && command_formed(core) && write_e2_formed(core) {
         answer = 5;
         if frame_formed(bytes, parities, last_bits) {
             answer = 4;

@@ -44,7 +44,7 @@ pub fn host_read<'a>(
 {
     let mut next = core;
     let mut answer: u32 = 7;
-    if status_formed(core) & (command_formed(core) & write_e2_formed(core)) {
+    if status_formed(core) && command_formed(core) && write_e2_formed(core) {
         answer = 1;
         if address < 64 {
             let register = mapped(core.page, address);

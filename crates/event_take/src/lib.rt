@@ -40,7 +40,7 @@ pub fn take<'a, 'b>(
 {
     let mut next = core;
     let mut answer: u32 = 7;
-    if status_formed(core) & (command_formed(core) & write_e2_formed(core)) {
+    if status_formed(core) && command_formed(core) && write_e2_formed(core) {
         answer = 6;
         if 66 <= buffer.len() {
             answer = 4;

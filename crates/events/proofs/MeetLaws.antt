@@ -3,7 +3,7 @@
 use Prim.Native.Nat.{ℕ, suc, _/_, _%_, _<_, _≤_}
 use native.Mathlib.Omega.{arith}
 use mathlib.Core.Path.{_≡_, refl, sym, ap, _∙_, subst}
-use mathlib.Core.Bool.{Bool, true, false, cond, not, _&&_, _||_}
+use mathlib.Core.Bool.{Bool, true, false, cond, not, and-false, _&&_, _||_}
 use mathlib.Core.List.{List}
 use lib.Dec.{ltb, eqb}
 use lib.ListN.{length}
@@ -60,12 +60,30 @@ pub start-refusal : (c : Chip) (image : List ℕ) (t : Bool) → eqb (length ima
 unfolding chipRefusal refusal
 start-refusal c image t e = ap (λ (b : Bool). refuseIf (not b) 2 0) e
 
--- What the three tests of the core, by their promises, say of the chip.
-pub judged : (c : Chip) → Whole c → {a b t : Bool} → a ≡ statusFormed (c .core) →
-    b ≡ activeFormed (c .core .command) (c .core .sending) (c .core .receiving) (heldCount (c .core .ring)) → ((latch : List ℕ) → length latch ≡ 16 → t ≡ writeE2Formed (c .core) latch) →
-    (v : Bool) → (a && (b && t)) ≡ v → chipFormed c ≡ v
-unfolding chipFormed
-judged c whole status active writes v e = sym (by-groups (c .core) status active writes (c .slots) (c .registers) (c .latch) (c .key) (c .eeprom) (whole .latch-count)) ∙ e
+-- What the three tests of the core, by their promises, say of the chip: it is well formed where all hold, and malformed where one fails.
+module _ (c : Chip) where
+  abbrev active : Bool
+  active = activeFormed (c .core .command) (c .core .sending) (c .core .receiving) (heldCount (c .core .ring))
+
+  by-tests : (v w x : Bool) → statusFormed (c .core) ≡ v → active ≡ w → writeE2Formed (c .core) (c .latch) ≡ x → chipFormed c ≡ (v && (w && x))
+  unfolding chipFormed
+  by-tests v w x status is writes = by-groups (c .core) (c .slots) (c .registers) (c .latch) (c .key) (c .eeprom) ∙ rw (status, is, writes)
+
+  pub status-fails : {a : Bool} → a ≡ statusFormed (c .core) → a ≡ false → chipFormed c ≡ false
+  status-fails is e = by-tests false active (writeE2Formed (c .core) (c .latch)) (sym is ∙ e) refl refl
+
+  pub command-fails : {b : Bool} → b ≡ active → b ≡ false → chipFormed c ≡ false
+  command-fails is e = by-tests (statusFormed (c .core)) false (writeE2Formed (c .core) (c .latch)) refl (sym is ∙ e) refl ∙ and-false (statusFormed (c .core))
+
+  module _ (whole : Whole c) {t : Bool} (writes : (latch : List ℕ) → length latch ≡ 16 → t ≡ writeE2Formed (c .core) latch) where
+    pub write-e2-fails : t ≡ false → chipFormed c ≡ false
+    write-e2-fails e =
+        by-tests (statusFormed (c .core)) active false refl refl (sym (writes (c .latch) (whole .latch-count)) ∙ e)
+        ∙ ap (λ (b : Bool). statusFormed (c .core) && b) (and-false active)
+        ∙ and-false (statusFormed (c .core))
+
+    pub all-hold : {a b : Bool} → a ≡ statusFormed (c .core) → a ≡ true → b ≡ active → b ≡ true → t ≡ true → chipFormed c ≡ true
+    all-hold status holds command goes e = by-tests true true true (sym status ∙ holds) (sym command ∙ goes) (sym (writes (c .latch) (whole .latch-count)) ∙ e)
 
 module _ (c : Chip) (formed : chipFormed c ≡ true) where
   -- The parts of being well formed.

@@ -13,7 +13,7 @@ use Rattle.chip.specs.View.{heldCount, heldOf, isSet, writingOf, commandOf, vie
 use Rattle.chip.specs.declared.Core.{Core}
 use Rattle.fifo.proofs.RingLaws.{ring-length}
 use Rattle.well_formed.specs.Groups.{statusFormed, activeFormed, writeE2Formed}
-use Rattle.well_formed.proofs.FormedLaws.{joined, others-formed}
+use Rattle.well_formed.proofs.FormedLaws.{others-formed}
 
 -- The clauses in the order of the specification.
 and-left-comm : (a b c : Bool) → (a && (b && c)) ≡ (b && (a && c))
@@ -77,10 +77,9 @@ module _ (c : Core) (latch : List ℕ) where
       ∙ reordered (listed (c .command)) flows writes (bitsAgree c) (leb k 64) timer (commandFormed command) (leb k (waits command)) checksum zeros
       ∙ ap Clauses e
 
--- What the three tests say together.
-pub by-groups : (c : Core) {a b t : Bool} → a ≡ statusFormed c → b ≡ activeFormed (c .command) (c .sending) (c .receiving) (heldCount (c .ring)) →
-    ((latch : List ℕ) → length latch ≡ 16 → t ≡ writeE2Formed c latch) →
-    (slots registers latch key eeprom : List ℕ) → length latch ≡ 16 → (a && (b && t)) ≡ (fieldsFormed c && wellFormed (viewOf c slots registers latch key eeprom))
+-- A chip's state is well formed where the three groups hold.
+pub by-groups : (c : Core) (slots registers latch key eeprom : List ℕ) →
+    (fieldsFormed c && wellFormed (viewOf c slots registers latch key eeprom))
+    ≡ (statusFormed c && (activeFormed (c .command) (c .sending) (c .receiving) (heldCount (c .ring)) && writeE2Formed c latch))
 unfolding wellFormed viewOf
-by-groups c status active writes slots registers latch key eeprom sixteen =
-    joined status (joined active (writes latch sixteen)) ∙ all-clauses c latch (length (heldOf (c .ring) slots)) (sym (ring-length (c .ring) slots))
+by-groups c slots registers latch key eeprom = sym (all-clauses c latch (length (heldOf (c .ring) slots)) (sym (ring-length (c .ring) slots)))

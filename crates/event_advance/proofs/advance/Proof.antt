@@ -3,6 +3,7 @@ use borrow.Author.Needs.{needs}
 use borrow.Author.Tests.{lt-ltb, le-ltb}
 use denote.Ref.{now}
 use native.Mathlib.Omega.{arith}
+use mathlib.Core.Logic.{⊎-elim}
 use mathlib.Core.Path.{refl, ap, _∙_}
 use mathlib.Core.Bool.{Bool, true, false}
 use mathlib.Core.List.{[]}
@@ -10,7 +11,7 @@ use Rattle.machine.specs.Refusals.{advance, refuseIf, clockLimit}
 use Rattle.chip.specs.View.{view, viewOf}
 use Rattle.chip.specs.Meets.{assembled}
 use Rattle.chip.specs.declared.Chip.{Chip}
-use Rattle.events.proofs.MeetLaws.{refused, malformed, judged, advance-refusal, own-fields-formed, machine-formed, accepted-here}
+use Rattle.events.proofs.MeetLaws.{refused, malformed, status-fails, command-fails, write-e2-fails, all-hold, advance-refusal, own-fields-formed, machine-formed, accepted-here}
 use Rattle.event_advance.proofs.advance.Statement.{statement}
 use Rattle.event_advance.proofs.advance.Tie as tie
 
@@ -33,14 +34,15 @@ returns : tie.Need-returns
 unfolding viewOf
 returns c whole =
     let place = c .before .before .before .before .before .before .before in
-    let a = place .before .before .before .args in
-    let old = at-entry (place .before .before .before) in
-    let formed = judged old whole (place .before .before .status-formed .ensures) (place .before .command-formed .ensures) (place .write-e2-formed .ensures) true (c .before .before .before .before .before .before .if1 .taken) in
+    let first = place .before .before .before .before in
+    let a = first .before .args in
+    let old = at-entry (first .before) in
+    let formed = all-hold old whole (place .write-e2-formed .ensures) (first .status-formed .ensures) (place .before .before .before .if1 .taken) (place .before .before .command-formed .ensures) (place .before .if2 .taken) (c .before .before .before .before .before .before .if3 .taken) in
     let agrees = own-fields-formed old formed in
     let runs = c .advanced in
     let next = assembled (runs .result) (now (a .slots)) (now (a .registers)) (runs .last .1 .1 .1 .0) (now (a .key)) (runs .last .1 .1 .1 .1 .0) in
     accepted-here old formed (advance (a .clocks)) next 0 [] tt whole
-    (advance-refusal old formed (a .clocks) 0 (ap (λ (t : Bool). refuseIf t 3 0) (le-ltb clockLimit (a .clocks) (omega (arith, c .before .before .before .before .before .if2 .taken)))))
+    (advance-refusal old formed (a .clocks) 0 (ap (λ (t : Bool). refuseIf t 3 0) (le-ltb clockLimit (a .clocks) (omega (arith, c .before .before .before .before .before .if4 .taken)))))
     (record {
       answered = refl;
       turned = runs .ensures .0 agrees (whole .latch-count) (now (a .key)) (machine-formed old formed whole);
@@ -53,17 +55,20 @@ returns c whole =
 returns-2 : tie.Need-returns-2
 returns-2 c whole =
     let place = c .before .before in
-    let a = place .before .before .before .args in
-    let old = at-entry (place .before .before .before) in
-    let formed = judged old whole (place .before .before .status-formed .ensures) (place .before .command-formed .ensures) (place .write-e2-formed .ensures) true (c .before .if1 .taken) in
-    let number = advance-refusal old formed (a .clocks) 3 (ap (λ (t : Bool). refuseIf t 3 0) (lt-ltb clockLimit (a .clocks) (omega (arith, c .if2 .left)))) in
+    let first = place .before .before .before .before in
+    let a = first .before .args in
+    let old = at-entry (first .before) in
+    let formed = all-hold old whole (place .write-e2-formed .ensures) (first .status-formed .ensures) (place .before .before .before .if1 .taken) (place .before .before .command-formed .ensures) (place .before .if2 .taken) (c .before .if3 .taken) in
+    let number = advance-refusal old formed (a .clocks) 3 (ap (λ (t : Bool). refuseIf t 3 0) (lt-ltb clockLimit (a .clocks) (omega (arith, c .if4 .left)))) in
     refused old (advance (a .clocks)) 2 (number .0) whole
 
 returns-3 : tie.Need-returns-3
 returns-3 c whole =
-    let s = c .before .before .before .before in
+    let s = c .before .before in
     let old = at-entry s in
-    malformed old (advance (s .args .clocks)) tt (judged old whole (c .before .before .before .status-formed .ensures) (c .before .before .command-formed .ensures) (c .before .write-e2-formed .ensures) false (c .if1 .left)) whole
+    malformed old (advance (s .args .clocks)) tt
+    (⊎-elim (λ x. write-e2-fails old whole (x .3 .ensures) (x .4 .left)) (⊎-elim (λ x. command-fails old (x .1 .ensures) (x .2 .left)) (λ x. status-fails old (c .before .status-formed .ensures) (x .left))) (c .if1 .came))
+    whole
 
 pub advance-spec : {M : Type 1} → statement M
 advance-spec = tie.close (tie.spec status-formed-requires command-formed-requires write-e2-formed-requires advanced-requires returns returns-2 returns-3)

@@ -1,6 +1,7 @@
 -- `event_deliver::deliver` meets its contract, by the refusals in their order. Assumes nothing.
 use borrow.Author.Needs.{needs}
 use denote.Ref.{now}
+use mathlib.Core.Logic.{⊎-elim}
 use mathlib.Core.Path.{refl, _∙_}
 use mathlib.Core.Bool.{true, false}
 use mathlib.Core.List.{[]}
@@ -9,7 +10,7 @@ use Rattle.chip.specs.View.{view, viewOf}
 use Rattle.chip.specs.Meets.{assembled}
 use Rattle.chip.specs.declared.Chip.{Chip}
 use Rattle.event_deliver.proofs.DeliverLaws.{deliver-turns}
-use Rattle.events.proofs.MeetLaws.{refused, malformed, judged, deliver-unformed, deliver-judged, own-fields-formed, accepted-here}
+use Rattle.events.proofs.MeetLaws.{refused, malformed, status-fails, command-fails, write-e2-fails, all-hold, deliver-unformed, deliver-judged, own-fields-formed, accepted-here}
 use Rattle.events.proofs.TypeLaws.{known-bytes}
 use Rattle.event_deliver.proofs.deliver.Statement.{statement}
 use Rattle.event_deliver.proofs.deliver.Tie as tie
@@ -39,16 +40,17 @@ returns : tie.Need-returns
 unfolding viewOf
 returns c whole =
     let place = c .before .before .before .before .before .before .before .before in
-    let s = place .before .before .before .before .before in
+    let first = place .before .before .before .before in
+    let s = first .before .before .before in
     let a = s .args in
     let old = at-entry s in
     let bytes = now (a .bytes) in
     let parities = now (a .parities) in
-    let formed = judged old whole (place .before .before .status-formed .ensures) (place .before .command-formed .ensures) (place .write-e2-formed .ensures) true (c .before .before .before .before .before .before .before .if1 .taken) in
+    let formed = all-hold old whole (place .write-e2-formed .ensures) (first .status-formed .ensures) (place .before .before .before .if1 .taken) (place .before .before .command-formed .ensures) (place .before .if2 .taken) (c .before .before .before .before .before .before .before .if3 .taken) in
     let comes = c .frame-came in
     let next = assembled (comes .result) (comes .last .1 .0) (now (a .registers)) (now (a .latch)) (now (a .key)) (now (a .eeprom)) in
-    accepted-here old formed (deliver bytes parities (a .last-bits)) next 0 [] (known-bytes bytes (place .before .before .before .before .shared-slice-known .given)) whole
-    (deliver-judged old formed bytes parities (a .last-bits) (c .before .before .before .before .before .before .frame-formed .ensures) (c .before .before .before .before .before .if2 .taken) (c .before .before .before .before .receives .ensures) true (c .before .before .before .if3 .taken))
+    accepted-here old formed (deliver bytes parities (a .last-bits)) next 0 [] (known-bytes bytes (first .before .before .shared-slice-known .given)) whole
+    (deliver-judged old formed bytes parities (a .last-bits) (c .before .before .before .before .before .before .frame-formed .ensures) (c .before .before .before .before .before .if4 .taken) (c .before .before .before .before .receives .ensures) true (c .before .before .before .if5 .taken))
     (record {
       answered = refl;
       turned = comes .ensures .0 (whole .slot-count) (now (a .latch)) (now (a .key)) (now (a .eeprom)) ∙ deliver-turns bytes parities (a .last-bits) (view old);
@@ -61,31 +63,35 @@ returns c whole =
 returns-2 : tie.Need-returns-2
 returns-2 c whole =
     let place = c .before .before .before .before .before in
-    let s = place .before .before .before .before .before in
+    let first = place .before .before .before .before in
+    let s = first .before .before .before in
     let a = s .args in
     let old = at-entry s in
-    let formed = judged old whole (place .before .before .status-formed .ensures) (place .before .command-formed .ensures) (place .write-e2-formed .ensures) true (c .before .before .before .before .if1 .taken) in
+    let formed = all-hold old whole (place .write-e2-formed .ensures) (first .status-formed .ensures) (place .before .before .before .if1 .taken) (place .before .before .command-formed .ensures) (place .before .if2 .taken) (c .before .before .before .before .if3 .taken) in
     let number =
-    deliver-judged old formed (now (a .bytes)) (now (a .parities)) (a .last-bits) (c .before .before .before .frame-formed .ensures) (c .before .before .if2 .taken) (c .before .receives .ensures) false (c .if3 .left) in
+    deliver-judged old formed (now (a .bytes)) (now (a .parities)) (a .last-bits) (c .before .before .before .frame-formed .ensures) (c .before .before .if4 .taken) (c .before .receives .ensures) false (c .if5 .left) in
     refused old (deliver (now (a .bytes)) (now (a .parities)) (a .last-bits)) 3 (number .0) whole
 
 returns-3 : tie.Need-returns-3
 returns-3 c whole =
     let place = c .before .before .before in
-    let s = place .before .before .before .before .before in
+    let first = place .before .before .before .before in
+    let s = first .before .before .before in
     let a = s .args in
     let old = at-entry s in
-    let formed = judged old whole (place .before .before .status-formed .ensures) (place .before .command-formed .ensures) (place .write-e2-formed .ensures) true (c .before .before .if1 .taken) in
+    let formed = all-hold old whole (place .write-e2-formed .ensures) (first .status-formed .ensures) (place .before .before .before .if1 .taken) (place .before .before .command-formed .ensures) (place .before .if2 .taken) (c .before .before .if3 .taken) in
     let number =
-    deliver-unformed old formed (now (a .bytes)) (now (a .parities)) (a .last-bits) (c .before .frame-formed .ensures) (c .if2 .left) in
+    deliver-unformed old formed (now (a .bytes)) (now (a .parities)) (a .last-bits) (c .before .frame-formed .ensures) (c .if4 .left) in
     refused old (deliver (now (a .bytes)) (now (a .parities)) (a .last-bits)) 4 (number .0) whole
 
 returns-4 : tie.Need-returns-4
 returns-4 c whole =
-    let s = c .before .before .before .before .before .before in
+    let s = c .before .before .before .before in
     let a = s .args in
     let old = at-entry s in
-    malformed old (deliver (now (a .bytes)) (now (a .parities)) (a .last-bits)) tt (judged old whole (c .before .before .before .status-formed .ensures) (c .before .before .command-formed .ensures) (c .before .write-e2-formed .ensures) false (c .if1 .left)) whole
+    malformed old (deliver (now (a .bytes)) (now (a .parities)) (a .last-bits)) tt
+    (⊎-elim (λ x. write-e2-fails old whole (x .3 .ensures) (x .4 .left)) (⊎-elim (λ x. command-fails old (x .1 .ensures) (x .2 .left)) (λ x. status-fails old (c .before .status-formed .ensures) (x .left))) (c .if1 .came))
+    whole
 
 pub deliver-spec : {M : Type 1} → statement M
 deliver-spec =

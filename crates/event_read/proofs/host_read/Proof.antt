@@ -3,6 +3,7 @@ use borrow.Author.Needs.{needs}
 use borrow.Author.Tests.{lt-ltb, le-ltb}
 use denote.Ref.{now}
 use native.Mathlib.Omega.{arith}
+use mathlib.Core.Logic.{⊎-elim}
 use mathlib.Core.Path.{refl, ap, _∙_}
 use mathlib.Core.Bool.{Bool, true, false}
 use mathlib.Core.List.{[]}
@@ -10,7 +11,7 @@ use Rattle.machine.specs.Refusals.{hostRead, refuseIf}
 use Rattle.chip.specs.View.{view, viewOf}
 use Rattle.chip.specs.Meets.{assembled}
 use Rattle.chip.specs.declared.Chip.{Chip}
-use Rattle.events.proofs.MeetLaws.{refused, malformed, judged, read-refusal, own-fields-formed, last-bits-small, accepted-here}
+use Rattle.events.proofs.MeetLaws.{refused, malformed, status-fails, command-fails, write-e2-fails, all-hold, read-refusal, own-fields-formed, last-bits-small, accepted-here}
 use Rattle.event_read.proofs.ReadLaws.{read-answer, read-removes, read-leaves}
 use Rattle.event_read.proofs.host_read.Statement.{statement}
 use Rattle.event_read.proofs.host_read.Tie as tie
@@ -46,17 +47,18 @@ returns : tie.Need-returns
 unfolding viewOf
 returns c whole =
     let place = c .before .before .before .before .before .before .before .before .before in
-    let a = place .before .before .before .args in
-    let old = at-entry (place .before .before .before) in
+    let first = place .before .before .before .before in
+    let a = first .before .args in
+    let old = at-entry (first .before) in
     let next = assembled (c .byte-left .result) (now (a .slots)) (now (a .registers)) (now (a .latch)) (now (a .key)) (now (a .eeprom)) in
-    let formed = judged old whole (place .before .before .status-formed .ensures) (place .before .command-formed .ensures) (place .write-e2-formed .ensures) true (c .before .before .before .before .before .before .before .before .if1 .taken) in
+    let formed = all-hold old whole (place .write-e2-formed .ensures) (first .status-formed .ensures) (place .before .before .before .if1 .taken) (place .before .before .command-formed .ensures) (place .before .if2 .taken) (c .before .before .before .before .before .before .before .before .if3 .taken) in
     let agrees = own-fields-formed old formed in
-    let passed = read-refusal old formed (a .address) 0 (ap (λ (t : Bool). refuseIf t 1 0) (le-ltb 63 (a .address) (omega (arith, c .before .before .before .before .before .before .before .if2 .taken)))) in
+    let passed = read-refusal old formed (a .address) 0 (ap (λ (t : Bool). refuseIf t 1 0) (le-ltb 63 (a .address) (omega (arith, c .before .before .before .before .before .before .before .if4 .taken)))) in
     let is = c .before .before .before .before .before .before .mapped .ensures in
     accepted-here old formed (hostRead (a .address)) next _ [] tt whole passed
     (record {
       answered = read-answer (a .address) _ (view old) is _ (c .before .before .before .read .ensures agrees (last-bits-small old formed) (now (a .latch)) (now (a .key)) (now (a .eeprom)));
-      turned = c .byte-left .ensures .0 (now (a .slots)) (now (a .latch)) (now (a .key)) (now (a .eeprom)) ∙ read-removes (a .address) _ (view old) is (c .before .before .if3 .taken);
+      turned = c .byte-left .ensures .0 (now (a .slots)) (now (a .latch)) (now (a .key)) (now (a .eeprom)) ∙ read-removes (a .address) _ (view old) is (c .before .before .if5 .taken);
       lent = refl;
       fields = c .byte-left .ensures .1 agrees;
       slot-count = whole .slot-count;
@@ -67,16 +69,17 @@ returns-2 : tie.Need-returns-2
 unfolding viewOf
 returns-2 c whole =
     let place = c .before .before .before .before .before .before .before in
-    let a = place .before .before .before .args in
-    let old = at-entry (place .before .before .before) in
-    let formed = judged old whole (place .before .before .status-formed .ensures) (place .before .command-formed .ensures) (place .write-e2-formed .ensures) true (c .before .before .before .before .before .before .if1 .taken) in
+    let first = place .before .before .before .before in
+    let a = first .before .args in
+    let old = at-entry (first .before) in
+    let formed = all-hold old whole (place .write-e2-formed .ensures) (first .status-formed .ensures) (place .before .before .before .if1 .taken) (place .before .before .command-formed .ensures) (place .before .if2 .taken) (c .before .before .before .before .before .before .if3 .taken) in
     let agrees = own-fields-formed old formed in
-    let passed = read-refusal old formed (a .address) 0 (ap (λ (t : Bool). refuseIf t 1 0) (le-ltb 63 (a .address) (omega (arith, c .before .before .before .before .before .if2 .taken)))) in
+    let passed = read-refusal old formed (a .address) 0 (ap (λ (t : Bool). refuseIf t 1 0) (le-ltb 63 (a .address) (omega (arith, c .before .before .before .before .before .if4 .taken)))) in
     let is = c .before .before .before .before .mapped .ensures in
     accepted-here old formed (hostRead (a .address)) old _ [] tt whole passed
     (record {
       answered = read-answer (a .address) _ (view old) is _ (c .before .read .ensures agrees (last-bits-small old formed) (now (a .latch)) (now (a .key)) (now (a .eeprom)));
-      turned = read-leaves (a .address) _ (view old) is (c .if3 .left);
+      turned = read-leaves (a .address) _ (view old) is (c .if5 .left);
       lent = refl;
       fields = agrees;
       slot-count = whole .slot-count;
@@ -86,18 +89,20 @@ returns-2 c whole =
 returns-3 : tie.Need-returns-3
 returns-3 c whole =
     let place = c .before .before in
-    let a = place .before .before .before .args in
-    let old = at-entry (place .before .before .before) in
-    let formed = judged old whole (place .before .before .status-formed .ensures) (place .before .command-formed .ensures) (place .write-e2-formed .ensures) true (c .before .if1 .taken) in
-    let number = read-refusal old formed (a .address) 1 (ap (λ (t : Bool). refuseIf t 1 0) (lt-ltb 63 (a .address) (omega (arith, c .if2 .left)))) in
+    let first = place .before .before .before .before in
+    let a = first .before .args in
+    let old = at-entry (first .before) in
+    let formed = all-hold old whole (place .write-e2-formed .ensures) (first .status-formed .ensures) (place .before .before .before .if1 .taken) (place .before .before .command-formed .ensures) (place .before .if2 .taken) (c .before .if3 .taken) in
+    let number = read-refusal old formed (a .address) 1 (ap (λ (t : Bool). refuseIf t 1 0) (lt-ltb 63 (a .address) (omega (arith, c .if4 .left)))) in
     refused old (hostRead (a .address)) 0 (number .0) whole
 
 returns-4 : tie.Need-returns-4
 returns-4 c whole =
-    let a = c .before .before .before .before .args in
-    let old = at-entry (c .before .before .before .before) in
-    let formed = judged old whole (c .before .before .before .status-formed .ensures) (c .before .before .command-formed .ensures) (c .before .write-e2-formed .ensures) false (c .if1 .left) in
-    malformed old (hostRead (a .address)) tt formed whole
+    let a = c .before .before .args in
+    let old = at-entry (c .before .before) in
+    malformed old (hostRead (a .address)) tt
+    (⊎-elim (λ x. write-e2-fails old whole (x .3 .ensures) (x .4 .left)) (⊎-elim (λ x. command-fails old (x .1 .ensures) (x .2 .left)) (λ x. status-fails old (c .before .status-formed .ensures) (x .left))) (c .if1 .came))
+    whole
 
 pub host-read-spec : {M : Type 1} → statement M
 host-read-spec =

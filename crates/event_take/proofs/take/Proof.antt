@@ -2,6 +2,7 @@
 use borrow.Author.Needs.{needs}
 use denote.Ref.{now}
 use native.Mathlib.Omega.{arith}
+use mathlib.Core.Logic.{⊎-elim}
 use mathlib.Core.Path.{sym, _∙_}
 use mathlib.Core.Bool.{true, false}
 use Rattle.machine.specs.Refusals.{takeFrame}
@@ -10,7 +11,7 @@ use Rattle.chip.specs.Meets.{assembled}
 use Rattle.chip.specs.declared.Chip.{Chip}
 use Rattle.fifo.proofs.RingLaws.{ring-length}
 use Rattle.event_take.proofs.TakeLaws.{take-turns, take-fills, take-answer}
-use Rattle.events.proofs.MeetLaws.{refused, malformed, judged, take-short, take-judged, own-fields-formed, few-held, accepted-here}
+use Rattle.events.proofs.MeetLaws.{refused, malformed, status-fails, command-fails, write-e2-fails, all-hold, take-short, take-judged, own-fields-formed, few-held, accepted-here}
 use Rattle.events.proofs.TypeLaws.{known-bytes}
 use Rattle.event_take.proofs.take.Statement.{statement}
 use Rattle.event_take.proofs.take.Tie as tie
@@ -58,17 +59,18 @@ returns : tie.Need-returns
 unfolding viewOf
 returns c whole =
     let place = c .before .before .before .before .before .before .before .before .before .before .before .before .before in
-    let a = place .before .before .before .before .args in
-    let old = at-entry (place .before .before .before .before) in
+    let first = place .before .before .before .before in
+    let a = first .before .before .args in
+    let old = at-entry (first .before .before) in
     let buffer = now (a .buffer) in
-    let formed = judged old whole (place .before .before .status-formed .ensures) (place .before .command-formed .ensures) (place .write-e2-formed .ensures) true (c .before .before .before .before .before .before .before .before .before .before .before .before .if1 .taken) in
+    let formed = all-hold old whole (place .write-e2-formed .ensures) (first .status-formed .ensures) (place .before .before .before .if1 .taken) (place .before .before .command-formed .ensures) (place .before .if2 .taken) (c .before .before .before .before .before .before .before .before .before .before .before .before .if3 .taken) in
     let few = few-held old formed in
     let fills = c .before .before .before .before .before .frame-into in
-    let room = c .before .before .before .before .before .before .before .before .before .before .before .if2 .taken in
+    let room = c .before .before .before .before .before .before .before .before .before .before .before .if4 .taken in
     let (count, bytes) = fills .ensures .0 (omega (arith, few, ring-length (a .core .ring) (now (a .slots)))) room (now (a .latch)) (now (a .key)) (now (a .eeprom)) in
     let next = assembled (c .frame-left .result) (now (a .slots)) (now (a .registers)) (now (a .latch)) (now (a .key)) (now (a .eeprom)) in
-    accepted-here old formed (takeFrame buffer) next _ (fills .last .1 .1 .1 .0) (known-bytes buffer (place .before .before .before .slice-known .given)) whole
-    (take-judged old formed buffer room (c .before .before .before .before .before .before .before .before .before .before .frame-waits .ensures) true (c .before .before .before .before .before .before .before .before .before .if3 .taken))
+    accepted-here old formed (takeFrame buffer) next _ (fills .last .1 .1 .1 .0) (known-bytes buffer (first .before .slice-known .given)) whole
+    (take-judged old formed buffer room (c .before .before .before .before .before .before .before .before .before .before .frame-waits .ensures) true (c .before .before .before .before .before .before .before .before .before .if5 .taken))
     (record {
       answered = take-answer (view old) (fills .result) few count;
       turned = c .frame-left .ensures .0 (now (a .slots)) (now (a .latch)) (now (a .key)) (now (a .eeprom)) ∙ take-turns (view old);
@@ -81,26 +83,30 @@ returns c whole =
 returns-2 : tie.Need-returns-2
 returns-2 c whole =
     let place = c .before .before .before .before in
-    let old = at-entry (place .before .before .before .before) in
-    let buffer = now (place .before .before .before .before .args .buffer) in
-    let formed = judged old whole (place .before .before .status-formed .ensures) (place .before .command-formed .ensures) (place .write-e2-formed .ensures) true (c .before .before .before .if1 .taken) in
-    let number = take-judged old formed buffer (c .before .before .if2 .taken) (c .before .frame-waits .ensures) false (c .if3 .left) in
+    let first = place .before .before .before .before in
+    let old = at-entry (first .before .before) in
+    let buffer = now (first .before .before .args .buffer) in
+    let formed = all-hold old whole (place .write-e2-formed .ensures) (first .status-formed .ensures) (place .before .before .before .if1 .taken) (place .before .before .command-formed .ensures) (place .before .if2 .taken) (c .before .before .before .if3 .taken) in
+    let number = take-judged old formed buffer (c .before .before .if4 .taken) (c .before .frame-waits .ensures) false (c .if5 .left) in
     refused old (takeFrame buffer) 3 (number .0) whole
 
 returns-3 : tie.Need-returns-3
 returns-3 c whole =
     let place = c .before .before in
-    let old = at-entry (place .before .before .before .before) in
-    let buffer = now (place .before .before .before .before .args .buffer) in
-    let formed = judged old whole (place .before .before .status-formed .ensures) (place .before .command-formed .ensures) (place .write-e2-formed .ensures) true (c .before .if1 .taken) in
-    let number = take-short old formed buffer (omega (arith, c .if2 .left)) in
+    let first = place .before .before .before .before in
+    let old = at-entry (first .before .before) in
+    let buffer = now (first .before .before .args .buffer) in
+    let formed = all-hold old whole (place .write-e2-formed .ensures) (first .status-formed .ensures) (place .before .before .before .if1 .taken) (place .before .before .command-formed .ensures) (place .before .if2 .taken) (c .before .if3 .taken) in
+    let number = take-short old formed buffer (omega (arith, c .if4 .left)) in
     refused old (takeFrame buffer) 5 (number .0) whole
 
 returns-4 : tie.Need-returns-4
 returns-4 c whole =
-    let s = c .before .before .before .before .before in
+    let s = c .before .before .before in
     let old = at-entry s in
-    malformed old (takeFrame (now (s .args .buffer))) tt (judged old whole (c .before .before .before .status-formed .ensures) (c .before .before .command-formed .ensures) (c .before .write-e2-formed .ensures) false (c .if1 .left)) whole
+    malformed old (takeFrame (now (s .args .buffer))) tt
+    (⊎-elim (λ x. write-e2-fails old whole (x .3 .ensures) (x .4 .left)) (⊎-elim (λ x. command-fails old (x .1 .ensures) (x .2 .left)) (λ x. status-fails old (c .before .status-formed .ensures) (x .left))) (c .if1 .came))
+    whole
 
 pub take-spec : {M : Type 1} → statement M
 take-spec =

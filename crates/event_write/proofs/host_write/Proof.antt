@@ -3,6 +3,7 @@ use borrow.Author.Needs.{needs}
 use borrow.Author.Tests.{lt-ltb, le-ltb}
 use denote.Ref.{now}
 use native.Mathlib.Omega.{arith}
+use mathlib.Core.Logic.{⊎-elim}
 use mathlib.Core.Path.{refl, ap, _∙_}
 use mathlib.Core.Bool.{Bool, true, false}
 use mathlib.Core.List.{[]}
@@ -11,7 +12,7 @@ use Rattle.chip.specs.View.{view, viewOf}
 use Rattle.chip.specs.Meets.{assembled}
 use Rattle.chip.specs.declared.Chip.{Chip}
 use Rattle.event_write.proofs.WriteLaws.{write-turns}
-use Rattle.events.proofs.MeetLaws.{refused, malformed, judged, write-refusal, own-fields-formed, accepted-here}
+use Rattle.events.proofs.MeetLaws.{refused, malformed, status-fails, command-fails, write-e2-fails, all-hold, write-refusal, own-fields-formed, accepted-here}
 use Rattle.event_write.proofs.host_write.Statement.{statement}
 use Rattle.event_write.proofs.host_write.Tie as tie
 
@@ -37,14 +38,15 @@ returns : tie.Need-returns
 unfolding viewOf
 returns c whole =
     let place = c .before .before .before .before .before .before .before .before .before in
-    let a = place .before .before .before .args in
-    let old = at-entry (place .before .before .before) in
-    let formed = judged old whole (place .before .before .status-formed .ensures) (place .before .command-formed .ensures) (place .write-e2-formed .ensures) true (c .before .before .before .before .before .before .before .before .if1 .taken) in
+    let first = place .before .before .before .before in
+    let a = first .before .args in
+    let old = at-entry (first .before) in
+    let formed = all-hold old whole (place .write-e2-formed .ensures) (first .status-formed .ensures) (place .before .before .before .if1 .taken) (place .before .before .command-formed .ensures) (place .before .if2 .taken) (c .before .before .before .before .before .before .before .before .if3 .taken) in
     let agrees = own-fields-formed old formed in
     let wrote = c .written in
     let next = assembled (wrote .result) (wrote .last .1 .0) (wrote .last .1 .1 .0) (wrote .last .1 .1 .1 .0) (wrote .last .1 .1 .1 .1 .0) (now (a .eeprom)) in
-    accepted-here old formed (hostWrite (a .address) (a .v)) next 0 [] (place .before .before .before .fits .v .fits) whole
-    (write-refusal old formed (a .address) (a .v) 0 (ap (λ (t : Bool). refuseIf t 1 0) (le-ltb 63 (a .address) (omega (arith, c .before .before .before .before .before .before .before .if2 .taken)))))
+    accepted-here old formed (hostWrite (a .address) (a .v)) next 0 [] (first .before .fits .v .fits) whole
+    (write-refusal old formed (a .address) (a .v) 0 (ap (λ (t : Bool). refuseIf t 1 0) (le-ltb 63 (a .address) (omega (arith, c .before .before .before .before .before .before .before .if4 .taken)))))
     (record {
       answered = refl;
       turned =
@@ -59,17 +61,20 @@ returns c whole =
 returns-2 : tie.Need-returns-2
 returns-2 c whole =
     let place = c .before .before in
-    let a = place .before .before .before .args in
-    let old = at-entry (place .before .before .before) in
-    let formed = judged old whole (place .before .before .status-formed .ensures) (place .before .command-formed .ensures) (place .write-e2-formed .ensures) true (c .before .if1 .taken) in
-    let number = write-refusal old formed (a .address) (a .v) 1 (ap (λ (t : Bool). refuseIf t 1 0) (lt-ltb 63 (a .address) (omega (arith, c .if2 .left)))) in
+    let first = place .before .before .before .before in
+    let a = first .before .args in
+    let old = at-entry (first .before) in
+    let formed = all-hold old whole (place .write-e2-formed .ensures) (first .status-formed .ensures) (place .before .before .before .if1 .taken) (place .before .before .command-formed .ensures) (place .before .if2 .taken) (c .before .if3 .taken) in
+    let number = write-refusal old formed (a .address) (a .v) 1 (ap (λ (t : Bool). refuseIf t 1 0) (lt-ltb 63 (a .address) (omega (arith, c .if4 .left)))) in
     refused old (hostWrite (a .address) (a .v)) 0 (number .0) whole
 
 returns-3 : tie.Need-returns-3
 returns-3 c whole =
-    let s = c .before .before .before .before in
+    let s = c .before .before in
     let old = at-entry s in
-    malformed old (hostWrite (s .args .address) (s .args .v)) tt (judged old whole (c .before .before .before .status-formed .ensures) (c .before .before .command-formed .ensures) (c .before .write-e2-formed .ensures) false (c .if1 .left)) whole
+    malformed old (hostWrite (s .args .address) (s .args .v)) tt
+    (⊎-elim (λ x. write-e2-fails old whole (x .3 .ensures) (x .4 .left)) (⊎-elim (λ x. command-fails old (x .1 .ensures) (x .2 .left)) (λ x. status-fails old (c .before .status-formed .ensures) (x .left))) (c .if1 .came))
+    whole
 
 pub host-write-spec : {M : Type 1} → statement M
 host-write-spec =

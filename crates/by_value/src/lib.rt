@@ -20,7 +20,7 @@ pub fn start(chip: Chip, image: &[u8]) -> Outcome
     let mut latch = chip.latch;
     let mut key = chip.key;
     let mut eeprom = chip.eeprom;
-    let step = event_start::start(
+    let started = event_start::start(
         chip.core,
         &mut slots,
         &mut registers,
@@ -29,7 +29,7 @@ pub fn start(chip: Chip, image: &[u8]) -> Outcome
         &mut eeprom,
         image,
     );
-    let core = step.core;
+    let core = started.core;
     let next = Chip {
         core: core,
         slots: slots,
@@ -40,7 +40,7 @@ pub fn start(chip: Chip, image: &[u8]) -> Outcome
     };
     Outcome {
         chip: next,
-        answer: step.answer,
+        answer: started.answer,
     }
 }
 
@@ -53,7 +53,7 @@ pub fn host_read(chip: Chip, address: u8) -> Outcome
     let mut latch = chip.latch;
     let mut key = chip.key;
     let mut eeprom = chip.eeprom;
-    let step = event_read::host_read(
+    let read = event_read::host_read(
         chip.core,
         &mut slots,
         &mut registers,
@@ -62,7 +62,7 @@ pub fn host_read(chip: Chip, address: u8) -> Outcome
         &mut eeprom,
         address,
     );
-    let core = step.core;
+    let core = read.core;
     let next = Chip {
         core: core,
         slots: slots,
@@ -73,7 +73,7 @@ pub fn host_read(chip: Chip, address: u8) -> Outcome
     };
     Outcome {
         chip: next,
-        answer: step.answer,
+        answer: read.answer,
     }
 }
 
@@ -86,7 +86,7 @@ pub fn host_write(chip: Chip, address: u8, v: u8) -> Outcome
     let mut latch = chip.latch;
     let mut key = chip.key;
     let mut eeprom = chip.eeprom;
-    let step = event_write::host_write(
+    let written = event_write::host_write(
         chip.core,
         &mut slots,
         &mut registers,
@@ -96,7 +96,7 @@ pub fn host_write(chip: Chip, address: u8, v: u8) -> Outcome
         address,
         v,
     );
-    let core = step.core;
+    let core = written.core;
     let next = Chip {
         core: core,
         slots: slots,
@@ -107,7 +107,7 @@ pub fn host_write(chip: Chip, address: u8, v: u8) -> Outcome
     };
     Outcome {
         chip: next,
-        answer: step.answer,
+        answer: written.answer,
     }
 }
 
@@ -120,7 +120,7 @@ pub fn advance(chip: Chip, clocks: u32) -> Outcome
     let mut latch = chip.latch;
     let mut key = chip.key;
     let mut eeprom = chip.eeprom;
-    let step = event_advance::advance(
+    let advanced = event_advance::advance(
         chip.core,
         &mut slots,
         &mut registers,
@@ -129,7 +129,7 @@ pub fn advance(chip: Chip, clocks: u32) -> Outcome
         &mut eeprom,
         clocks,
     );
-    let core = step.core;
+    let core = advanced.core;
     let next = Chip {
         core: core,
         slots: slots,
@@ -140,7 +140,7 @@ pub fn advance(chip: Chip, clocks: u32) -> Outcome
     };
     Outcome {
         chip: next,
-        answer: step.answer,
+        answer: advanced.answer,
     }
 }
 
@@ -153,7 +153,7 @@ pub fn take(chip: Chip, buffer: &mut [u8]) -> Outcome
     let mut latch = chip.latch;
     let mut key = chip.key;
     let mut eeprom = chip.eeprom;
-    let step = event_take::take(
+    let taken = event_take::take(
         chip.core,
         &mut slots,
         &mut registers,
@@ -162,7 +162,7 @@ pub fn take(chip: Chip, buffer: &mut [u8]) -> Outcome
         &mut eeprom,
         buffer,
     );
-    let core = step.core;
+    let core = taken.core;
     let next = Chip {
         core: core,
         slots: slots,
@@ -173,7 +173,7 @@ pub fn take(chip: Chip, buffer: &mut [u8]) -> Outcome
     };
     Outcome {
         chip: next,
-        answer: step.answer,
+        answer: taken.answer,
     }
 }
 
@@ -186,7 +186,7 @@ pub fn deliver(chip: Chip, bytes: &[u8], parities: &[u8], last_bits: u8) -> Outc
     let mut latch = chip.latch;
     let mut key = chip.key;
     let mut eeprom = chip.eeprom;
-    let step = event_deliver::deliver(
+    let delivered = event_deliver::deliver(
         chip.core,
         &mut slots,
         &mut registers,
@@ -197,7 +197,7 @@ pub fn deliver(chip: Chip, bytes: &[u8], parities: &[u8], last_bits: u8) -> Outc
         parities,
         last_bits,
     );
-    let core = step.core;
+    let core = delivered.core;
     let next = Chip {
         core: core,
         slots: slots,
@@ -208,6 +208,6 @@ pub fn deliver(chip: Chip, bytes: &[u8], parities: &[u8], last_bits: u8) -> Outc
     };
     Outcome {
         chip: next,
-        answer: step.answer,
+        answer: delivered.answer,
     }
 }

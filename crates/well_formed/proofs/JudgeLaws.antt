@@ -1,8 +1,7 @@
--- Laws for judging a state fast: a byte's mask for each of its tests, a timer's tests without a choice, and tests in another order.
+-- Laws for judging a state fast: a byte's mask for each of its tests, a timer's tests without a choice, and a command's by its code.
 -- Assumes nothing.
 use mathlib.Core.Path.{_≡_, _∙_, refl, sym, ap}
-use mathlib.Core.Bool.{Bool, true, false, cond, not, _&&_, _||_, and-true, and-false, and-assoc, and-comm, and-self}
-use mathlib.Core.List.{List}
+use mathlib.Core.Bool.{Bool, true, false, cond, not, _&&_, _||_, and-true, and-false, and-comm, and-self}
 use Prim.Native.Nat.{ℕ, zero, suc, _+_, _*_, _/_, _%_, _^_, _<_, _≤_}
 use native.Mathlib.Nat.{zero-add}
 use native.Mathlib.Omega.{arith}
@@ -113,17 +112,6 @@ at-most false n l h e = simp (e, and-false)
 
 pub within : (n l : ℕ) → l ≤ 64 → (leb n 64 && leb n l) ≡ leb n l
 within n l h = at-most (leb n l) n l h refl
-
-none : (n : ℕ) → leb n 0 ≡ eqb n 0
-none zero = refl
-none (suc n) = le-ltb n 0 (omega arith) ∙ sym (ne-eqb (suc n) 0 (λ e. omega (arith, e)))
-
-pub none-within : (n : ℕ) → (leb n 64 && leb n 0) ≡ eqb n 0
-none-within n = within n 0 (omega arith) ∙ none n
-
-gone : (a b q : Bool) → (a && b) ≡ false → false ≡ (a && (b && q))
-gone true b q e = rw e
-gone false b q e = refl
 
 -- A count that is below one more than so many.
 below-next : (t : Bool) (n l : ℕ) → leb n l ≡ t → ltb n (suc l) ≡ t

@@ -1,4 +1,4 @@
--- `bench::mfrc531_advance` meets its contract, by the walk that every entry point has (`InPlace.antt`), since `event_advance::advance` meets its own. Assumes nothing.
+-- `bench::mfrc531_advance` meets its contract, by the walk that every entry point has (in_place, `proofs/InPlace.antt`), since `event_advance::advance` meets its own. Assumes nothing.
 use mathlib.Core.List.{[], _∷_}
 use mir.Syntax.{w32}
 use prog.Wp
@@ -10,8 +10,8 @@ use Rattle.chip.specs.Meets.{Meets}
 use Rattle.event_advance.proofs.advance as g
 use Rattle.event_advance.proofs.advance.Symbol as event
 use Rattle.event_advance.proofs.advance.Met as event-thm
-use Rattle.bench.proofs.Beside.{scalar}
-use Rattle.bench.proofs.InPlace.{meets}
+use Rattle.in_place.proofs.Beside.{scalar}
+use Rattle.in_place.proofs.InPlace.{meets}
 use Rattle.bench.proofs.mfrc531_advance.Key as key
 use Rattle.bench.proofs.mfrc531_advance as f
 use Rattle.bench.proofs.mfrc531_advance.Statement as stated

@@ -1,4 +1,4 @@
--- `bench::mfrc531_deliver` meets its contract, by the walk that every entry point has (`InPlace.antt`), since `event_deliver::deliver` meets its own. Assumes nothing.
+-- `bench::mfrc531_deliver` meets its contract, by the walk that every entry point has (in_place, `proofs/InPlace.antt`), since `event_deliver::deliver` meets its own. Assumes nothing.
 use mathlib.Core.List.{[], _∷_}
 use mir.Syntax.{w8}
 use prog.Wp
@@ -10,8 +10,8 @@ use Rattle.chip.specs.Meets.{Meets}
 use Rattle.event_deliver.proofs.deliver as g
 use Rattle.event_deliver.proofs.deliver.Symbol as event
 use Rattle.event_deliver.proofs.deliver.Met as event-thm
-use Rattle.bench.proofs.Beside.{scalar, shared}
-use Rattle.bench.proofs.InPlace.{meets}
+use Rattle.in_place.proofs.Beside.{scalar, shared}
+use Rattle.in_place.proofs.InPlace.{meets}
 use Rattle.bench.proofs.mfrc531_deliver.Key as key
 use Rattle.bench.proofs.mfrc531_deliver as f
 use Rattle.bench.proofs.mfrc531_deliver.Statement as stated

@@ -1,4 +1,4 @@
--- `bench::mfrc531_read` meets its contract, by the walk that every entry point has (`InPlace.antt`), since `event_read::host_read` meets its own. Assumes nothing.
+-- `bench::mfrc531_read` meets its contract, by the walk that every entry point has (in_place, `proofs/InPlace.antt`), since `event_read::host_read` meets its own. Assumes nothing.
 use mathlib.Core.List.{[], _∷_}
 use mir.Syntax.{w8}
 use prog.Wp
@@ -10,8 +10,8 @@ use Rattle.chip.specs.Meets.{Meets}
 use Rattle.event_read.proofs.host_read as g
 use Rattle.event_read.proofs.host_read.Symbol as event
 use Rattle.event_read.proofs.host_read.Met as event-thm
-use Rattle.bench.proofs.Beside.{scalar}
-use Rattle.bench.proofs.InPlace.{meets}
+use Rattle.in_place.proofs.Beside.{scalar}
+use Rattle.in_place.proofs.InPlace.{meets}
 use Rattle.bench.proofs.mfrc531_read.Key as key
 use Rattle.bench.proofs.mfrc531_read as f
 use Rattle.bench.proofs.mfrc531_read.Statement as stated

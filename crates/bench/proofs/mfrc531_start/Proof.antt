@@ -1,4 +1,4 @@
--- `bench::mfrc531_start` meets its contract, by the walk that every entry point has (`InPlace.antt`), since `event_start::start` meets its own. Assumes nothing.
+-- `bench::mfrc531_start` meets its contract, by the walk that every entry point has (in_place, `proofs/InPlace.antt`), since `event_start::start` meets its own. Assumes nothing.
 use mathlib.Core.List.{[], _∷_}
 use prog.Wp
 use contract.Running.{givenOf, tables, tablesOf}
@@ -9,8 +9,8 @@ use Rattle.chip.specs.Meets.{Meets}
 use Rattle.event_start.proofs.start as g
 use Rattle.event_start.proofs.start.Symbol as event
 use Rattle.event_start.proofs.start.Met as event-thm
-use Rattle.bench.proofs.Beside.{shared}
-use Rattle.bench.proofs.InPlace.{meets}
+use Rattle.in_place.proofs.Beside.{shared}
+use Rattle.in_place.proofs.InPlace.{meets}
 use Rattle.bench.proofs.mfrc531_start.Key as key
 use Rattle.bench.proofs.mfrc531_start as f
 use Rattle.bench.proofs.mfrc531_start.Statement as stated

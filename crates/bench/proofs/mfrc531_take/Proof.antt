@@ -1,4 +1,4 @@
--- `bench::mfrc531_take` meets its contract, by the walk that every entry point has (`InPlace.antt`), since `event_take::take` meets its own. Assumes nothing.
+-- `bench::mfrc531_take` meets its contract, by the walk that every entry point has (in_place, `proofs/InPlace.antt`), since `event_take::take` meets its own. Assumes nothing.
 use mathlib.Core.List.{[], _∷_}
 use prog.Wp
 use contract.Running.{givenOf, tables, tablesOf}
@@ -9,8 +9,8 @@ use Rattle.chip.specs.Meets.{Meets}
 use Rattle.event_take.proofs.take as g
 use Rattle.event_take.proofs.take.Symbol as event
 use Rattle.event_take.proofs.take.Met as event-thm
-use Rattle.bench.proofs.Beside.{lent}
-use Rattle.bench.proofs.InPlace.{meets}
+use Rattle.in_place.proofs.Beside.{lent}
+use Rattle.in_place.proofs.InPlace.{meets}
 use Rattle.bench.proofs.mfrc531_take.Key as key
 use Rattle.bench.proofs.mfrc531_take as f
 use Rattle.bench.proofs.mfrc531_take.Statement as stated

@@ -4,12 +4,12 @@ use borrow.Author.Tests.{lt-ltb, le-ltb}
 use denote.Ref.{now}
 use native.Mathlib.Omega.{arith}
 use mathlib.Core.Logic.{⊎-elim}
-use mathlib.Core.Path.{refl, ap, _∙_}
+use mathlib.Core.Path.{_≡_, refl, ap, _∙_}
 use mathlib.Core.Bool.{Bool, true, false}
 use mathlib.Core.List.{[]}
 use Rattle.machine.specs.Refusals.{hostRead, refuseIf}
-use Rattle.chip.specs.View.{view, viewOf}
-use Rattle.chip.specs.Meets.{assembled}
+use Rattle.chip.specs.View.{view, viewOf, chipFormed}
+use Rattle.chip.specs.Meets.{assembled, Whole}
 use Rattle.chip.specs.declared.Chip.{Chip}
 use Rattle.events.proofs.MeetLaws.{refused, malformed, status-fails, command-fails, write-e2-fails, all-hold, read-refusal, own-fields-formed, last-bits-small, accepted-here}
 use Rattle.event_read.proofs.ReadLaws.{read-answer, read-removes, read-leaves}
@@ -43,15 +43,24 @@ byte-left-requires c κs = search needs
 abbrev at-entry : tie.Start → Chip
 at-entry s = let a = s .args in assembled (a .core) (now (a .slots)) (now (a .registers)) (now (a .latch)) (now (a .key)) (now (a .eeprom))
 
+-- Past the three tests: where the function began, and that the chip is well formed.
+abbrev entered : tie.Then3 → tie.Start
+entered past = past .before .before .before .before .before .before
+
+well-formed : (past : tie.Then3) → Whole (at-entry (entered past)) → chipFormed (at-entry (entered past)) ≡ true
+well-formed past whole =
+    let last = past .before in
+    all-hold (at-entry (entered past)) whole (last .write-e2-formed .ensures) (last .before .before .before .before .status-formed .ensures) (last .before .before .before .if1 .taken)
+    (last .before .before .command-formed .ensures) (last .before .if2 .taken) (past .if3 .taken)
+
 returns : tie.Need-returns
 unfolding viewOf
 returns c whole =
-    let place = c .before .before .before .before .before .before .before .before .before in
-    let first = place .before .before .before .before in
-    let a = first .before .args in
-    let old = at-entry (first .before) in
+    let past = c .before .before .before .before .before .before .before .before in
+    let a = entered past .args in
+    let old = at-entry (entered past) in
     let next = assembled (c .byte-left .result) (now (a .slots)) (now (a .registers)) (now (a .latch)) (now (a .key)) (now (a .eeprom)) in
-    let formed = all-hold old whole (place .write-e2-formed .ensures) (first .status-formed .ensures) (place .before .before .before .if1 .taken) (place .before .before .command-formed .ensures) (place .before .if2 .taken) (c .before .before .before .before .before .before .before .before .if3 .taken) in
+    let formed = well-formed past whole in
     let agrees = own-fields-formed old formed in
     let passed = read-refusal old formed (a .address) 0 (ap (λ (t : Bool). refuseIf t 1 0) (le-ltb 63 (a .address) (omega (arith, c .before .before .before .before .before .before .before .if4 .taken)))) in
     let is = c .before .before .before .before .before .before .mapped .ensures in
@@ -68,11 +77,10 @@ returns c whole =
 returns-2 : tie.Need-returns-2
 unfolding viewOf
 returns-2 c whole =
-    let place = c .before .before .before .before .before .before .before in
-    let first = place .before .before .before .before in
-    let a = first .before .args in
-    let old = at-entry (first .before) in
-    let formed = all-hold old whole (place .write-e2-formed .ensures) (first .status-formed .ensures) (place .before .before .before .if1 .taken) (place .before .before .command-formed .ensures) (place .before .if2 .taken) (c .before .before .before .before .before .before .if3 .taken) in
+    let past = c .before .before .before .before .before .before in
+    let a = entered past .args in
+    let old = at-entry (entered past) in
+    let formed = well-formed past whole in
     let agrees = own-fields-formed old formed in
     let passed = read-refusal old formed (a .address) 0 (ap (λ (t : Bool). refuseIf t 1 0) (le-ltb 63 (a .address) (omega (arith, c .before .before .before .before .before .if4 .taken)))) in
     let is = c .before .before .before .before .mapped .ensures in
@@ -88,11 +96,10 @@ returns-2 c whole =
 
 returns-3 : tie.Need-returns-3
 returns-3 c whole =
-    let place = c .before .before in
-    let first = place .before .before .before .before in
-    let a = first .before .args in
-    let old = at-entry (first .before) in
-    let formed = all-hold old whole (place .write-e2-formed .ensures) (first .status-formed .ensures) (place .before .before .before .if1 .taken) (place .before .before .command-formed .ensures) (place .before .if2 .taken) (c .before .if3 .taken) in
+    let past = c .before in
+    let a = entered past .args in
+    let old = at-entry (entered past) in
+    let formed = well-formed past whole in
     let number = read-refusal old formed (a .address) 1 (ap (λ (t : Bool). refuseIf t 1 0) (lt-ltb 63 (a .address) (omega (arith, c .if4 .left)))) in
     refused old (hostRead (a .address)) 0 (number .0) whole
 

@@ -3,11 +3,11 @@ use borrow.Author.Needs.{needs}
 use denote.Ref.{now}
 use native.Mathlib.Omega.{arith}
 use mathlib.Core.Logic.{⊎-elim}
-use mathlib.Core.Path.{sym, _∙_}
+use mathlib.Core.Path.{_≡_, sym, _∙_}
 use mathlib.Core.Bool.{true, false}
 use Rattle.machine.specs.Refusals.{takeFrame}
-use Rattle.chip.specs.View.{view, viewOf}
-use Rattle.chip.specs.Meets.{assembled}
+use Rattle.chip.specs.View.{view, viewOf, chipFormed}
+use Rattle.chip.specs.Meets.{assembled, Whole}
 use Rattle.chip.specs.declared.Chip.{Chip}
 use Rattle.fifo.proofs.RingLaws.{ring-length}
 use Rattle.event_take.proofs.TakeLaws.{take-turns, take-fills, take-answer}
@@ -55,21 +55,30 @@ same-length c = search needs
 abbrev at-entry : tie.Start → Chip
 at-entry s = let a = s .args in assembled (a .core) (now (a .slots)) (now (a .registers)) (now (a .latch)) (now (a .key)) (now (a .eeprom))
 
+-- Past the three tests: where the function began, and that the chip is well formed.
+abbrev entered : tie.Then3 → tie.Start
+entered past = past .before .before .before .before .before .before .before
+
+well-formed : (past : tie.Then3) → Whole (at-entry (entered past)) → chipFormed (at-entry (entered past)) ≡ true
+well-formed past whole =
+    let last = past .before in
+    all-hold (at-entry (entered past)) whole (last .write-e2-formed .ensures) (last .before .before .before .before .status-formed .ensures) (last .before .before .before .if1 .taken)
+    (last .before .before .command-formed .ensures) (last .before .if2 .taken) (past .if3 .taken)
+
 returns : tie.Need-returns
 unfolding viewOf
 returns c whole =
-    let place = c .before .before .before .before .before .before .before .before .before .before .before .before .before in
-    let first = place .before .before .before .before in
-    let a = first .before .before .args in
-    let old = at-entry (first .before .before) in
+    let past = c .before .before .before .before .before .before .before .before .before .before .before .before in
+    let a = entered past .args in
+    let old = at-entry (entered past) in
     let buffer = now (a .buffer) in
-    let formed = all-hold old whole (place .write-e2-formed .ensures) (first .status-formed .ensures) (place .before .before .before .if1 .taken) (place .before .before .command-formed .ensures) (place .before .if2 .taken) (c .before .before .before .before .before .before .before .before .before .before .before .before .if3 .taken) in
+    let formed = well-formed past whole in
     let few = few-held old formed in
     let fills = c .before .before .before .before .before .frame-into in
     let room = c .before .before .before .before .before .before .before .before .before .before .before .if4 .taken in
     let (count, bytes) = fills .ensures .0 (omega (arith, few, ring-length (a .core .ring) (now (a .slots)))) room (now (a .latch)) (now (a .key)) (now (a .eeprom)) in
     let next = assembled (c .frame-left .result) (now (a .slots)) (now (a .registers)) (now (a .latch)) (now (a .key)) (now (a .eeprom)) in
-    accepted-here old formed (takeFrame buffer) next _ (fills .last .1 .1 .1 .0) (known-bytes buffer (first .before .slice-known .given)) whole
+    accepted-here old formed (takeFrame buffer) next _ (fills .last .1 .1 .1 .0) (known-bytes buffer (past .before .before .before .before .before .before .slice-known .given)) whole
     (take-judged old formed buffer room (c .before .before .before .before .before .before .before .before .before .before .frame-waits .ensures) true (c .before .before .before .before .before .before .before .before .before .if5 .taken))
     (record {
       answered = take-answer (view old) (fills .result) few count;
@@ -82,21 +91,19 @@ returns c whole =
 
 returns-2 : tie.Need-returns-2
 returns-2 c whole =
-    let place = c .before .before .before .before in
-    let first = place .before .before .before .before in
-    let old = at-entry (first .before .before) in
-    let buffer = now (first .before .before .args .buffer) in
-    let formed = all-hold old whole (place .write-e2-formed .ensures) (first .status-formed .ensures) (place .before .before .before .if1 .taken) (place .before .before .command-formed .ensures) (place .before .if2 .taken) (c .before .before .before .if3 .taken) in
+    let past = c .before .before .before in
+    let old = at-entry (entered past) in
+    let buffer = now (entered past .args .buffer) in
+    let formed = well-formed past whole in
     let number = take-judged old formed buffer (c .before .before .if4 .taken) (c .before .frame-waits .ensures) false (c .if5 .left) in
     refused old (takeFrame buffer) 3 (number .0) whole
 
 returns-3 : tie.Need-returns-3
 returns-3 c whole =
-    let place = c .before .before in
-    let first = place .before .before .before .before in
-    let old = at-entry (first .before .before) in
-    let buffer = now (first .before .before .args .buffer) in
-    let formed = all-hold old whole (place .write-e2-formed .ensures) (first .status-formed .ensures) (place .before .before .before .if1 .taken) (place .before .before .command-formed .ensures) (place .before .if2 .taken) (c .before .if3 .taken) in
+    let past = c .before in
+    let old = at-entry (entered past) in
+    let buffer = now (entered past .args .buffer) in
+    let formed = well-formed past whole in
     let number = take-short old formed buffer (omega (arith, c .if4 .left)) in
     refused old (takeFrame buffer) 5 (number .0) whole
 

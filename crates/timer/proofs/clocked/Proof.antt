@@ -1,4 +1,4 @@
--- `clocks::clocked` meets its contract. One law for each way out; a prescaler above 31 is what the contract leaves out. Assumes nothing.
+-- `timer::clocked` meets its contract. One law for each way out; a prescaler above 31 is what the contract leaves out. Assumes nothing.
 use borrow.Author.Needs.{needs}
 use native.Mathlib.Omega.{arith}
 use Rattle.timer.proofs.TimerLaws.{clocks-some, clock-stays, clock-counts, clock-steps}

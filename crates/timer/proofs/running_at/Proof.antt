@@ -1,4 +1,4 @@
--- `clocks::running_at` meets its contract. The timer is the only part that changes. Assumes nothing.
+-- `timer::running_at` meets its contract. The timer is the only part that changes. Assumes nothing.
 use mathlib.Core.Path.{refl}
 use Rattle.chip.specs.View.{viewOf}
 use Rattle.chip.proofs.KeepLaws.{keep-timer}

@@ -1,4 +1,4 @@
--- `clocks::started` meets its contract. One law for each of the three ways out. Assumes nothing.
+-- `timer::started` meets its contract. One law for each of the three ways out. Assumes nothing.
 use borrow.Author.Needs.{needs}
 use Rattle.timer.proofs.TimerLaws.{start-zero, start-high, start-runs}
 use Rattle.timer.proofs.started.Statement.{statement}

@@ -1,4 +1,4 @@
--- `clocks::started_if` meets its contract, by the flag. Assumes nothing.
+-- `timer::started_if` meets its contract, by the flag. Assumes nothing.
 use borrow.Author.Needs.{needs}
 use mathlib.Core.Path.{refl}
 use Rattle.timer.proofs.started_if.Statement.{statement}

@@ -1,4 +1,4 @@
--- `clocks::stepped` meets its contract. One law for each of the four ways out. Assumes nothing.
+-- `timer::stepped` meets its contract. One law for each of the four ways out. Assumes nothing.
 use borrow.Author.Needs.{needs}
 use Rattle.timer.proofs.TimerLaws.{step-falls, step-rests, step-zero, step-restarts}
 use Rattle.timer.proofs.stepped.Statement.{statement}

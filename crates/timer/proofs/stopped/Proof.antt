@@ -1,4 +1,4 @@
--- `clocks::stopped` meets its contract. Its callee ensures it. Assumes nothing.
+-- `timer::stopped` meets its contract. Its callee ensures it. Assumes nothing.
 use borrow.Author.Needs.{needs}
 use Rattle.chip.specs.View.{viewOf}
 use Rattle.timer.proofs.stopped.Statement.{statement}

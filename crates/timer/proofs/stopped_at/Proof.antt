@@ -1,4 +1,4 @@
--- `clocks::stopped_at` meets its contract. The timer is the only part that changes. Assumes nothing.
+-- `timer::stopped_at` meets its contract. The timer is the only part that changes. Assumes nothing.
 use mathlib.Core.Path.{refl}
 use Rattle.chip.specs.View.{viewOf}
 use Rattle.chip.proofs.KeepLaws.{keep-timer}

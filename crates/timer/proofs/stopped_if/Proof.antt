@@ -1,4 +1,4 @@
--- `clocks::stopped_if` meets its contract, by the flag. Assumes nothing.
+-- `timer::stopped_if` meets its contract, by the flag. Assumes nothing.
 use borrow.Author.Needs.{needs}
 use mathlib.Core.Path.{refl}
 use Rattle.timer.proofs.stopped_if.Statement.{statement}

@@ -32,7 +32,7 @@ use denote.Builtin.{u8}
 use denote.Ref.{RefT, MutRef}
 use denote.Lend.{lends-ref, ref-back}
 use denote.Struct.Members.{Member, rowsOf, partsAt}
-use Rattle.bench.proofs.Beside.{Blocks, rooms, cells, find, Looks, found, opds-in}
+use Rattle.in_place.proofs.Beside.{Blocks, rooms, cells, find, Looks, found, opds-in}
 
 abbrev bytes : ℕ → Ty
 bytes n = tyArray (tyInt w8) n

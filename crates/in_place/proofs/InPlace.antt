@@ -53,8 +53,8 @@ use Rattle.chip.proofs.Core.Laws as K′
 use Rattle.events.proofs.TypeLaws.{whole-chip}
 use Rattle.events.proofs.Step as O
 use Rattle.events.proofs.Step.Laws as O′
-use Rattle.bench.proofs.Beside.{Kind, tysOf, moreOf, Args, valsOf, moreVals, vals-typed, more-typed, Blocks, envOf, localsOf, find, Looks, looks-next, looks-here, past, past-find, past-looks, stmts, ops, alloc-all, pass-all, free-all, found, rebinds, operands, Beside, typesOf, kindsOf, argsOf, flat-is, Finals, lefts}
-use Rattle.bench.proofs.Arrays.{arrays, refTys, Lists, Then, ends, heads, nows, Names, refs, ptrs, ptr-vals, ptrs-typed, lents, owned as owned-by, left, flat-then, lend-all, back-all, addrs, Fields, take-addresses, copies, refs-read}
+use Rattle.in_place.proofs.Beside.{Kind, tysOf, moreOf, Args, valsOf, moreVals, vals-typed, more-typed, Blocks, envOf, localsOf, find, Looks, looks-next, looks-here, past, past-find, past-looks, stmts, ops, alloc-all, pass-all, free-all, found, rebinds, operands, Beside, typesOf, kindsOf, argsOf, flat-is, Finals, lefts}
+use Rattle.in_place.proofs.Arrays.{arrays, refTys, Lists, Then, ends, heads, nows, Names, refs, ptrs, ptr-vals, ptrs-typed, lents, owned as owned-by, left, flat-then, lend-all, back-all, addrs, Fields, take-addresses, copies, refs-read}
 
 -- ---- the chip: the lengths of its arrays, and the chip of a core and arrays
 abbrev ns : List ℕ

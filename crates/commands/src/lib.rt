@@ -1,10 +1,8 @@
 // What the active command does with waiting bytes.
 ghost use mathlib.Core.Path.{_≡_};
-ghost use mathlib.Core.Bool.{true};
 ghost use lib.ListN.{length};
 ghost use Rattle.machine.specs.Commands.{settled as Commands·settled};
-ghost use Rattle.chip.specs.View.{viewOf, fieldsFormed};
-ghost use Rattle.chip.specs.Turns.{Keeps};
+ghost use Rattle.chip.specs.Turns.{TurnsAll, Keeps};
 use calc_crc::calc_crc;
 use chip::Core;
 use command_step::stepped;
@@ -20,7 +18,7 @@ pub fn settled(
     key: &mut [u8; 6],
     eeprom: &[u8; 512],
 ) -> Core
-    ensures turns { λ r. ⌜ (fieldsFormed core ≡ true → length (now (slots .entry)) ≡ 64 → length (now (registers .entry)) ≡ 32 → length (now (latch .entry)) ≡ 16 → length (now (eeprom .entry)) ≡ 512 → viewOf r (now (slots .exit)) (now (registers .exit)) (now (latch .exit)) (now (key .exit)) (now (eeprom .entry)) ≡ Commands·settled (viewOf core (now (slots .entry)) (now (registers .entry)) (now (latch .entry)) (now (key .entry)) (now (eeprom .entry)))) ⌝ }
+    ensures turns { λ r. ⌜ TurnsAll Commands·settled core (now (slots .entry)) (now (registers .entry)) (now (latch .entry)) (now (key .entry)) (now (eeprom .entry)) r (now (slots .exit)) (now (registers .exit)) (now (latch .exit)) (now (key .exit)) ⌝ }
     ensures whole { λ r. ⌜ ((length (now (slots .exit)) ≡ length (now (slots .entry))) × (length (now (registers .exit)) ≡ length (now (registers .entry))) × (length (now (latch .exit)) ≡ length (now (latch .entry)))) ⌝ }
     ensures keeps { λ r. ⌜ Keeps core r ⌝ }
 {

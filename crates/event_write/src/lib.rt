@@ -1,14 +1,12 @@
 // The host write on a chip's parts: the register, and what the active command then does.
 ghost use mathlib.Core.Path.{_≡_};
-ghost use mathlib.Core.Bool.{true};
 ghost use mathlib.Core.List.{[]};
 ghost use lib.ListN.{length};
 ghost use Rattle.machine.specs.Refusals.{hostWrite};
 ghost use Rattle.machine.specs.Registers.{registerWritten};
 ghost use Rattle.machine.specs.Commands.{settled as Commands·settled};
 ghost use Rattle.machine.specs.Fifo.{alerted as Fifo·alerted};
-ghost use Rattle.chip.specs.View.{viewOf, fieldsFormed};
-ghost use Rattle.chip.specs.Turns.{Keeps};
+ghost use Rattle.chip.specs.Turns.{TurnsAll, Keeps};
 ghost use Rattle.chip.specs.Meets.{assembled, Promises};
 use chip::Core;
 use commands::settled;
@@ -32,7 +30,7 @@ fn written(
     register: u8,
     v: u8,
 ) -> Core
-    ensures turns { λ r. ⌜ (fieldsFormed core ≡ true → length (now (slots .entry)) ≡ 64 → length (now (registers .entry)) ≡ 32 → length (now (latch .entry)) ≡ 16 → length (now (eeprom .entry)) ≡ 512 → let m = viewOf core (now (slots .entry)) (now (registers .entry)) (now (latch .entry)) (now (key .entry)) (now (eeprom .entry)) in viewOf r (now (slots .exit)) (now (registers .exit)) (now (latch .exit)) (now (key .exit)) (now (eeprom .entry)) ≡ Fifo·alerted m (Commands·settled (registerWritten register v m))) ⌝ }
+    ensures turns { λ r. ⌜ TurnsAll (λ m. Fifo·alerted m (Commands·settled (registerWritten register v m))) core (now (slots .entry)) (now (registers .entry)) (now (latch .entry)) (now (key .entry)) (now (eeprom .entry)) r (now (slots .exit)) (now (registers .exit)) (now (latch .exit)) (now (key .exit)) ⌝ }
     ensures whole { λ r. ⌜ ((length (now (slots .exit)) ≡ length (now (slots .entry))) × (length (now (latch .exit)) ≡ length (now (latch .entry)))) ⌝ }
     ensures keeps { λ r. ⌜ Keeps core r ⌝ }
 {

@@ -19,7 +19,7 @@ pub fn written(
     register: u8,
     v: u8,
 ) -> Core
-    ensures turns { λ r. ⌜ (length (now (slots .entry)) ≡ 64 → length (now (registers .entry)) ≡ 32 → (latch key eeprom : List ℕ) → viewOf r (now (slots .exit)) (now (registers .exit)) latch key eeprom ≡ registerWritten register v (viewOf core (now (slots .entry)) (now (registers .entry)) latch key eeprom)) ⌝ }
+    ensures turns { λ r. ⌜ (length (now (slots .entry)) ≡ 64 → (latch key eeprom : List ℕ) → viewOf r (now (slots .exit)) (now (registers .exit)) latch key eeprom ≡ registerWritten register v (viewOf core (now (slots .entry)) (now (registers .entry)) latch key eeprom)) ⌝ }
     ensures whole { λ r. ⌜ ((length (now (slots .exit)) ≡ length (now (slots .entry))) × (length (now (registers .exit)) ≡ length (now (registers .entry)))) ⌝ }
     ensures keeps { λ r. ⌜ Keeps core r ⌝ }
 {

@@ -41,7 +41,7 @@ returns c =
           c .alerted .ensures .0 m (sym (lows .low .ensures _ _ _ _)) (sym (highs .high .ensures _ _ _ _)) slots latch key eeprom
           ∙ ap (alerted m)
           (does .0 (wrote .1 .1 agrees) (wrote .1 .0 .0 ∙ some) (wrote .1 .0 .1 ∙ size) few whole
-          ∙ ap settled (wrote .0 some size (now (a .latch)) (now (a .key)) eeprom)),
+          ∙ ap settled (wrote .0 some (now (a .latch)) (now (a .key)) eeprom)),
       ((does .1 .0 .0 ∙ wrote .1 .0 .0, does .1 .0 .2), λ agrees. c .alerted .ensures .1 (does .1 .1 (wrote .1 .1 agrees))),
     )
 

@@ -16,7 +16,7 @@ page-written-requires c κs = search needs
 returns : tie.Need-returns
 returns c =
     let a = c .before .before .args in (
-      λ slots-64 registers-32 latch key eeprom.
+      λ slots-64 latch key eeprom.
           c .page-written .ensures .0 (now (a .slots)) (now (a .registers)) latch key eeprom
           ∙ write-page (a .register) (a .v) (viewOf (a .core) (now (a .slots)) (now (a .registers)) latch key eeprom) (c .before .if1 .taken),
       ((refl, refl), c .page-written .ensures .1),
@@ -29,7 +29,7 @@ returns-2 : tie.Need-returns-2
 unfolding registerWritten
 returns-2 c =
     let a = c .before .before .before .before .args in (
-      λ slots-64 registers-32 latch key eeprom.
+      λ slots-64 latch key eeprom.
           write-as (a .register) 0x02 (a .v) (viewOf (a .core) (now (a .slots)) (now (a .registers)) latch key eeprom) _ (c .before .before .if2 .taken)
           (c .offered .ensures .0 slots-64 (now (a .registers)) latch key eeprom),
       ((c .offered .ensures .1 .0, refl), c .offered .ensures .1 .1),
@@ -41,7 +41,7 @@ core-written-requires c κs = search needs
 returns-3 : tie.Need-returns-3
 returns-3 c =
     let a = c .before .before .before .before .before .args in (
-      λ slots-64 registers-32. c .core-written .ensures .0 (c .before .before .before .before .if1 .left) (c .before .before .before .if2 .left) (c .before .before .if3 .taken) (now (a .slots)),
+      λ slots-64. c .core-written .ensures .0 (c .before .before .before .before .if1 .left) (c .before .before .before .if2 .left) (c .before .before .if3 .taken) (now (a .slots)),
       ((refl, refl), c .core-written .ensures .1),
     )
 
@@ -55,7 +55,7 @@ returns-4 : tie.Need-returns-4
 unfolding viewOf
 returns-4 c =
     let a = c .before .before .before .before .args in (
-      λ slots-64 registers-32 latch key eeprom.
+      λ slots-64 latch key eeprom.
           write-stored (a .register) (a .v) (viewOf (a .core) (now (a .slots)) (now (a .registers)) latch key eeprom) (c .before .before .before .if1 .left) (c .before .if3 .left) (c .if4 .taken),
       ((refl, length-set (now (a .registers)) _ (a .v)), λ agrees. agrees),
     )
@@ -63,7 +63,7 @@ returns-4 c =
 returns-5 : tie.Need-returns-5
 returns-5 c =
     let a = c .before .before .before .before .args in (
-      λ slots-64 registers-32 latch key eeprom.
+      λ slots-64 latch key eeprom.
           write-beyond (a .register) (a .v) (viewOf (a .core) (now (a .slots)) (now (a .registers)) latch key eeprom) (c .before .before .before .if1 .left) (c .before .if3 .left) (c .if4 .left),
       ((refl, refl), λ agrees. agrees),
     )

@@ -38,7 +38,8 @@ enum mfrc531_refusal {
     MFRC531_PROFILE_NOT_32_BYTES = 9,
     MFRC531_FIXED_BIT_DIFFERS = 10,
     MFRC531_PRESCALER_ABOVE_21 = 11,
-    MFRC531_RELOAD_0_WITH_START = 12
+    MFRC531_RELOAD_0_WITH_START = 12,
+    MFRC531_WATER_LEVEL_ABOVE_31 = 13
 };
 
 /* The refusal of an answer; the byte or count; the last bits. */
@@ -114,9 +115,10 @@ mfrc531_answer mfrc531_deliver(mfrc531_chip *chip, const uint8_t *bytes, size_t 
 
 /* ---- Profiles ------------------------------------------------------------------------------------------------------------------------ */
 
-/* The check of a start-up profile, 32 bytes for 10h-2Fh. Refusals 10 to 12 name the register in bits 15-8, and 10 the bit in bits 23-16.
- * Refuses: 9 the profile is not 32 bytes; then, at the lowest register: 10 a fixed bit differs, 11 TPreScaler is above 21, 12 TimerReload is 0
- * while a TStartTx bit is set. */
+/* The check of a start-up profile, 32 bytes for 10h-2Fh. Refusals 10 to 13 name the register in bits 15-8, and 10 the bit in bits 23-16.
+ * Refuses: 9 the profile is not 32 bytes; then, at the lowest register: 10 a fixed bit differs, 11 TPreScaler (2Ah) is above 21, 12 TimerReload
+ * (2Ch) is 0 while a TStartTx bit is set, 13 WaterLevel (29h) is above 31, so that LoAlert or HiAlert is on at every fill of the FIFO. Only the
+ * check judges these values: a start, a host write and LoadConfig take them all. */
 mfrc531_answer mfrc531_check_profile(const uint8_t *profile, size_t length);
 
 /* The choice for a safe start, from two images of 512 bytes. Value: 1 the user's profile (bytes 010h-02Fh) passes, 2 only the rescue's does.

@@ -42,6 +42,11 @@ pub enum ProfileRefusal {
         /// where TimerReload is: 2Ch
         register: u8,
     },
+    /// 13: WaterLevel is above 31, so that LoAlert or HiAlert is on at every fill of the FIFO.
+    WaterLevelAbove31 {
+        /// where WaterLevel is: 29h
+        register: u8,
+    },
 }
 
 impl ProfileRefusal {
@@ -52,6 +57,7 @@ impl ProfileRefusal {
             ProfileRefusal::FixedBit { .. } => 10,
             ProfileRefusal::PrescalerAbove21 { .. } => 11,
             ProfileRefusal::ReloadZeroWithStart { .. } => 12,
+            ProfileRefusal::WaterLevelAbove31 { .. } => 13,
         }
     }
 }
@@ -63,6 +69,7 @@ impl fmt::Display for ProfileRefusal {
             ProfileRefusal::FixedBit { register, bit } => write!(f, "refuse 10 at {register:02X} bit {bit}"),
             ProfileRefusal::PrescalerAbove21 { register } => write!(f, "refuse 11 at {register:02X}"),
             ProfileRefusal::ReloadZeroWithStart { register } => write!(f, "refuse 12 at {register:02X}"),
+            ProfileRefusal::WaterLevelAbove31 { register } => write!(f, "refuse 13 at {register:02X}"),
         }
     }
 }
@@ -76,6 +83,10 @@ impl std::error::Error for ProfileRefusal {}
 /// assert_eq!(mfrc531::check_profile(&profile), Ok(()));
 /// profile[0x2A - 0x10] = 24;
 /// assert_eq!(mfrc531::check_profile(&profile).unwrap_err().to_string(), "refuse 11 at 2A");
+/// profile[0x29 - 0x10] = 32; // a lower register, so it is named instead
+/// let refusal = mfrc531::check_profile(&profile).unwrap_err();
+/// assert_eq!(refusal, mfrc531::ProfileRefusal::WaterLevelAbove31 { register: 0x29 });
+/// assert_eq!((refusal.number(), refusal.to_string().as_str()), (13, "refuse 13 at 29"));
 /// ```
 pub fn check_profile(profile: &[u8]) -> Result<(), ProfileRefusal> {
     // Safety: the profile is lent for the call alone, and has the length that is passed with it.
@@ -87,6 +98,7 @@ pub fn check_profile(profile: &[u8]) -> Result<(), ProfileRefusal> {
         10 => Err(ProfileRefusal::FixedBit { register, bit: (answer >> 16) as u8 }),
         11 => Err(ProfileRefusal::PrescalerAbove21 { register }),
         12 => Err(ProfileRefusal::ReloadZeroWithStart { register }),
+        13 => Err(ProfileRefusal::WaterLevelAbove31 { register }),
         other => unreachable!("the library has no refusal {other} here"),
     }
 }

@@ -5,7 +5,7 @@ use Prim.Native.Nat.{ℕ, _+_, _*_}
 use Rattle.profile.specs.Answer.{Answer, pass, refuse, refuse-at, refuse-bit}
 use Rattle.safe_start.specs.Choice.{Chosen, from-user, from-rescue, refused}
 
--- The profile check: the refusal, the register that 10 to 12 name, and the bit that 10 names.
+-- The profile check: the refusal, the register that 10 to 13 name, and the bit that 10 names.
 abbrev pub profileNumber : Answer → ℕ
 profileNumber pass = 0
 profileNumber (refuse n) = n

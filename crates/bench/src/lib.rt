@@ -140,6 +140,7 @@ fn refusal_number(refusal: Refusal) -> u32
         Refusal::FixedBit { register, bit } => 10 + 0x100 * register as u32 + 0x1_0000 * bit as u32,
         Refusal::PreScaler { register } => 11 + 0x100 * register as u32,
         Refusal::Reload { register } => 12 + 0x100 * register as u32,
+        Refusal::WaterLevel { register } => 13 + 0x100 * register as u32,
     }
 }
 

@@ -1,4 +1,5 @@
 pub mod Numbers
 pub mod Performing
 pub mod SingleClock
+pub mod WaterLevels
 pub mod WellFormed

@@ -13,4 +13,4 @@ pub mod WellFormedness
 pub mod SingleClock
 pub mod Numbers
 pub mod Readings
-pub mod Shipped
+pub mod WaterLevels

@@ -14,7 +14,7 @@ use Rattle.machine.specs.State.{Machine}
 use Rattle.machine.specs.Refusals.{Call, hostWrite, advance}
 use Rattle.machine.specs.Fifo.{loAlert, hiAlert}
 use Rattle.machine.specs.Events.{started, afterCalls}
-use Rattle.machine.specs.Shipped.{shipped, shippedWith, shippedImage}
+use Rattle.profile.specs.Shipped.{shipped, shippedWith, shippedImage}
 
 -- A checksum as its two bytes, low then high.
 abbrev pub lowHigh : ℕ → List ℕ

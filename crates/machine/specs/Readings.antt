@@ -10,7 +10,7 @@ use Rattle.machine.specs.Fifo.{registerAt, firstOf}
 use Rattle.machine.specs.Memory.{programmingClocks}
 use Rattle.machine.specs.Refusals.{Call, hostRead, hostWrite, advance, takeFrame, deliver}
 use Rattle.machine.specs.Events.{Outcome, started, perform, afterCalls, byte, frame, clock}
-use Rattle.machine.specs.Shipped.{shippedImage}
+use Rattle.profile.specs.Shipped.{shippedImage}
 use Rattle.machine.specs.Numbers.{afterStart, offers, command}
 
 -- A chip whose EEPROM has the damaged profile, prescaler 24, at 030h-04Fh.

@@ -7,10 +7,12 @@ use native.Mathlib.Omega.{arith}
 use mathlib.Core.Bool.{Bool, true, false, cond}
 use mathlib.Core.List.{List}
 use lib.ListN.{getD}
-use Rattle.profile.specs.Answer.{Answer, pass, refuse-bit, orElse}
+use Rattle.profile.specs.Answer.{Answer, pass, refuse-bit, orElse, refusalAnswer}
 use Rattle.profile.specs.FixedBits.{fixed}
-use Rattle.profile.specs.Check.{firstRefusal, differsAt, bitJudged, fixedBitsJudged, timerJudged, registerJudged}
+use Rattle.profile.specs.Check.{firstRefusal, differsAt, bitJudged, fixedBitsJudged, valueJudged, registerJudged}
 use Rattle.profile.specs.declared.FixedBits.{FixedBits}
+use Rattle.profile.specs.declared.Refusal.{Refusal}
+use Rattle.profile.specs.declared.Refusal.the-variants.{Length, FixedBit, PreScaler, Reload, WaterLevel}
 
 -- Nothing is left to judge.
 pub none-left : (judge : ℕ → Answer) (n from : ℕ) → n ≤ 0 → firstRefusal judge n from ≡ pass
@@ -27,11 +29,18 @@ passes judge {n} {left} {from} {next} one-less one-more ok =
     ∙ sym (ap (λ (m : ℕ). firstRefusal judge m from) one-less)
 
 -- A refusal ends the search.
-
 pub stops : (judge : ℕ → Answer) (n from : ℕ) (a : Answer) → 0 < n → judge from ≡ a → ((rest : Answer) → orElse a rest ≡ a) → firstRefusal judge n from ≡ a
 unfolding firstRefusal
 stops judge zero from a h is refuses = absurd (not-suc-le-zero h)
 stops judge (suc n) from a h is refuses = ap (λ (b : Answer). orElse b (firstRefusal judge n (from + 1))) is ∙ refuses (firstRefusal judge n (from + 1))
+
+-- A refusal is the first one, whatever else is judged.
+pub refusal-stays : (x : Refusal) (rest : Answer) → orElse (refusalAnswer x) rest ≡ refusalAnswer x
+refusal-stays Length rest = refl
+refusal-stays (FixedBit register bit) rest = refl
+refusal-stays (PreScaler register) rest = refl
+refusal-stays (Reload register) rest = refl
+refusal-stays (WaterLevel register) rest = refl
 
 -- What is judged at the register of a position, from the tests that the program makes.
 module _ (table : List FixedBits) (profile : List ℕ) (position : ℕ) where
@@ -53,7 +62,7 @@ module _ (table : List FixedBits) (profile : List ℕ) (position : ℕ) where
 
   -- the bits from k on are left, and none is
   pub bits-pass : (k : ℕ) → 8 ≤ k → firstRefusal (bitJudged table profile (0x10 + position)) (8 - k) k ≡ fixedBitsJudged table profile (0x10 + position) →
-      registerJudged table profile (0x10 + position) ≡ timerJudged profile (0x10 + position)
+      registerJudged table profile (0x10 + position) ≡ valueJudged profile (0x10 + position)
   bits-pass k h left =
-      ap (λ (a : Answer). orElse a (timerJudged profile (0x10 + position)))
+      ap (λ (a : Answer). orElse a (valueJudged profile (0x10 + position)))
       (sym left ∙ none-left (bitJudged table profile (0x10 + position)) (8 - k) k (omega arith))

@@ -1,10 +1,11 @@
--- What a check answers, document 01, "Refusal numbers": "A refusal answers its number, plus the register address for 10 to 12 and the bit for 10."
+-- What a check answers: a pass, or a refusal's number, with the register's address for 10 to 13 and the bit for 10. Document 01, "Refusal
+-- numbers", and document 02, R-6.
 -- Assumes nothing.
 use Prim.Native.Nat.{ℕ}
 use Rattle.profile.specs.declared.Verdict.{Verdict}
 use Rattle.profile.specs.declared.Verdict.the-variants.{Pass, Refused}
 use Rattle.profile.specs.declared.Refusal.{Refusal}
-use Rattle.profile.specs.declared.Refusal.the-variants.{Length, FixedBit, PreScaler, Reload}
+use Rattle.profile.specs.declared.Refusal.the-variants.{Length, FixedBit, PreScaler, Reload, WaterLevel}
 
 pub data Answer : Type 0 where
   pass : Answer
@@ -22,12 +23,13 @@ orElse (refuse n) a = refuse n
 orElse (refuse-at n r) a = refuse-at n r
 orElse (refuse-bit n r b) a = refuse-bit n r b
 
--- Document 01's number and values for each case of the program's enums.
+-- The number and values of the papers for each case of the program's enums.
 abbrev pub refusalAnswer : Refusal → Answer
 refusalAnswer Length = refuse 9
 refusalAnswer (FixedBit register bit) = refuse-bit 10 register bit
 refusalAnswer (PreScaler register) = refuse-at 11 register
 refusalAnswer (Reload register) = refuse-at 12 register
+refusalAnswer (WaterLevel register) = refuse-at 13 register
 
 abbrev pub answerOf : Verdict → Answer
 answerOf Pass = pass

@@ -1,5 +1,5 @@
--- The profile check, document 01, "Profiles" and the refusal numbers 9 to 12: one walk by register address, "9 first, then the lowest
--- register address, and at one address 10 before 11 or 12". The table of fixed bits is a parameter.
+-- The profile check: document 01, "Profiles" and the refusal numbers 9 to 12, and document 02, R-6, number 13. After the length, one walk by
+-- register address; at one address the fixed bits come before the values. The table of fixed bits is a parameter.
 -- Assumes nothing.
 use Prim.Native.Nat.{ℕ, zero, suc, _+_, _-_, _%_}
 use mathlib.Core.Bool.{Bool, _&&_, _||_, not, cond}
@@ -33,24 +33,34 @@ bitJudged table profile register k = cond (differsAt (entryFor table register) (
 abbrev pub fixedBitsJudged : List FixedBits → List ℕ → ℕ → Answer
 fixedBitsJudged table profile register = firstRefusal (bitJudged table profile register) 8 0
 
+-- A value is above its limit; it is judged at its own register.
+abbrev pub aboveLimit : ℕ → ℕ → ℕ → ℕ → Bool
+aboveLimit own register value limit = eqb register own && ltb limit value
+
 -- 11: TPreScaler (TimerClock, 2Ah, bits 4-0) above 21.
 abbrev pub prescalerRefused : ℕ → ℕ → Bool
-prescalerRefused register clock = eqb register 0x2A && ltb 21 (clock % 32)
+prescalerRefused register clock = aboveLimit 0x2A register (clock % 32) 21
 
 -- 12: TimerReload (2Ch) 0 while TStartTxBegin or TStartTxEnd (TimerControl, 2Bh, bits 0 and 1) is set; "named at 2Ch".
 abbrev pub reloadRefused : ℕ → ℕ → ℕ → Bool
 reloadRefused register control reload = eqb register 0x2C && (eqb reload 0 && (bitSet control 0 || bitSet control 1))
 
-abbrev pub timerJudged : List ℕ → ℕ → Answer
-timerJudged profile register =
-    cond (prescalerRefused register (byteFor profile 0x2A)) (refuse-at 11 register)
+-- 13: WaterLevel (FIFOLevel, 29h, bits 5-0) above 31. The chip then has an alert on however many bytes it holds (machine, WaterLevels).
+abbrev pub waterLevelRefused : ℕ → ℕ → Bool
+waterLevelRefused register level = aboveLimit 0x29 register (level % 64) 31
+
+-- What is judged of the values at one address, where its fixed bits hold.
+abbrev pub valueJudged : List ℕ → ℕ → Answer
+valueJudged profile register =
+    cond (waterLevelRefused register (byteFor profile 0x29)) (refuse-at 13 register)
+    (cond (prescalerRefused register (byteFor profile 0x2A)) (refuse-at 11 register)
     (cond (reloadRefused register (byteFor profile 0x2B) (byteFor profile 0x2C)) (refuse-at 12 register)
-    pass)
+    pass))
 
 -- All that is judged at one address, in its order.
 abbrev pub registerJudged : List FixedBits → List ℕ → ℕ → Answer
 registerJudged table profile register =
-    orElse (fixedBitsJudged table profile register) (timerJudged profile register)
+    orElse (fixedBitsJudged table profile register) (valueJudged profile register)
 
 -- The check of any bytes.
 unfoldable pub judged : List FixedBits → List ℕ → Answer

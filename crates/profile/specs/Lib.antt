@@ -1,3 +1,5 @@
 pub mod Answer
 pub mod FixedBits
 pub mod Check
+pub mod Shipped
+pub mod Examples

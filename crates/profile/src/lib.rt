@@ -1,10 +1,10 @@
-// The profile check: thirty-two bytes for registers 10h to 2Fh pass, or are refused with document 01's number.
+// The profile check: thirty-two bytes for registers 10h to 2Fh pass, or are refused with a number of documents 01 and 02.
 ghost use mathlib.Core.Path.{_≡_};
 ghost use Prim.Native.Nat.{_<_};
 ghost use Rattle.profile.specs.Answer.{answerOf};
-ghost use lib.ListN.{getD};
+ghost use lib.ListN.{length, getD};
 ghost use Rattle.profile.specs.FixedBits.{fixed, fixedBits};
-ghost use Rattle.profile.specs.Check.{differsAt, prescalerRefused, reloadRefused, judged};
+ghost use Rattle.profile.specs.Check.{differsAt, aboveLimit, reloadRefused, valueJudged, judged};
 
 // The fixed bits of one register: a mask of them, and the value that they have.
 pub struct FixedBits(pub u8, pub u8);
@@ -19,6 +19,8 @@ pub enum Refusal {
     PreScaler { register: u8 },
     // 12: TimerReload is 0 while a TStartTx bit is set.
     Reload { register: u8 },
+    // 13: WaterLevel is above 31.
+    WaterLevel { register: u8 },
 }
 
 pub enum Verdict {
@@ -84,12 +86,12 @@ fn differs(fixed: FixedBits, byte: u8, bit: u8) -> bool
     }
 }
 
-// At TimerClock's address: the prescaler is above 21.
-fn prescaler_refused(register: u8, clock: u8) -> bool
-    ensures { λ r. ⌜ r ≡ prescalerRefused register clock ⌝ }
+// At the value's own register: it is above its limit.
+fn above_limit(own: u8, register: u8, value: u8, limit: u8) -> bool
+    ensures { λ r. ⌜ r ≡ aboveLimit own register value limit ⌝ }
 {
-    if register == 0x2A {
-        21 < clock % 32
+    if register == own {
+        limit < value
     } else {
         false
     }
@@ -111,6 +113,23 @@ fn reload_refused(register: u8, control: u8, reload: u8) -> bool
     control / 2 % 2 == 1
 }
 
+// The verdict on the values at a register whose fixed bits hold.
+fn value_verdict(profile: &[u8], register: u8) -> Verdict
+    requires { ⌜ length (now profile) ≡ 32 ⌝ }
+    ensures { λ r. ⌜ answerOf r ≡ valueJudged (now (profile .entry)) register ⌝ }
+{
+    if above_limit(0x29, register, profile[0x29 - 0x10] % 64, 31) {
+        return Verdict::Refused(Refusal::WaterLevel { register: register });
+    }
+    if above_limit(0x2A, register, profile[0x2A - 0x10] % 32, 21) {
+        return Verdict::Refused(Refusal::PreScaler { register: register });
+    }
+    if reload_refused(register, profile[0x2B - 0x10], profile[0x2C - 0x10]) {
+        return Verdict::Refused(Refusal::Reload { register: register });
+    }
+    Verdict::Pass
+}
+
 // The verdict on any bytes.
 pub fn check(profile: &[u8]) -> Verdict
     ensures { λ r. ⌜ answerOf r ≡ judged fixedBits (now (profile .entry)) ⌝ }
@@ -118,9 +137,6 @@ pub fn check(profile: &[u8]) -> Verdict
     if profile.len() != 32 {
         return Verdict::Refused(Refusal::Length);
     }
-    let clock = profile[0x2A - 0x10];
-    let control = profile[0x2B - 0x10];
-    let reload = profile[0x2C - 0x10];
     let mut verdict = Verdict::Pass;
     'registers: for position in 0..32 {
         let register = (0x10 + position) as u8;
@@ -135,14 +151,10 @@ pub fn check(profile: &[u8]) -> Verdict
                 break 'registers;
             }
         }
-        if prescaler_refused(register, clock) {
-            verdict = Verdict::Refused(Refusal::PreScaler { register: register });
+        verdict = value_verdict(profile, register);
+        let Verdict::Pass = verdict else {
             break 'registers;
-        }
-        if reload_refused(register, control, reload) {
-            verdict = Verdict::Refused(Refusal::Reload { register: register });
-            break 'registers;
-        }
+        };
     }
     verdict
 }

@@ -108,6 +108,7 @@ fn put_verdict(verdict: Verdict, line: &mut [u8]) -> usize
         Refusal::FixedBit { register, bit } => put_refuse_bit(line, 10, register, bit),
         Refusal::PreScaler { register } => put_refuse_at(line, 11, register),
         Refusal::Reload { register } => put_refuse_at(line, 12, register),
+        Refusal::WaterLevel { register } => put_refuse_at(line, 13, register),
     }
 }
 

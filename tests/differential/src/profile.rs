@@ -1,5 +1,5 @@
-//! The check of a start-up profile and the choice for a safe start: document 01's "Profiles" in plain Rust, and its comparison with the
-//! library's `mfrc531_check_profile` and `mfrc531_choose`.
+//! The check of a start-up profile and the choice for a safe start: document 01's "Profiles" and document 02's R-6 in plain Rust, and their
+//! comparison with the library's `mfrc531_check_profile` and `mfrc531_choose`.
 
 use crate::call::{lively, SHIPPED};
 use crate::library;
@@ -30,6 +30,7 @@ pub enum Fault {
     FixedBit { register: u8, bit: u8 },
     PrescalerAbove21,
     Reload0WithStart,
+    WaterLevelAbove31,
 }
 
 impl Fault {
@@ -40,6 +41,7 @@ impl Fault {
             Fault::FixedBit { register, bit } => 10 | u32::from(register) << 8 | u32::from(bit) << 16,
             Fault::PrescalerAbove21 => 11 | 0x2A << 8,
             Fault::Reload0WithStart => 12 | 0x2C << 8,
+            Fault::WaterLevelAbove31 => 13 | 0x29 << 8,
         }
     }
 }
@@ -55,6 +57,9 @@ pub fn check(profile: &[u8]) -> Result<(), Fault> {
         let wrong = at(register) & mask;
         if wrong != 0 {
             return Err(Fault::FixedBit { register, bit: wrong.trailing_zeros() as u8 });
+        }
+        if register == 0x29 && at(0x29) & 0x3F >= 32 {
+            return Err(Fault::WaterLevelAbove31);
         }
         if register == 0x2A && at(0x2A) & 0x1F > 21 {
             return Err(Fault::PrescalerAbove21);
@@ -79,8 +84,8 @@ pub fn choose(user: &[u8], rescue: &[u8]) -> u32 {
     }
 }
 
-/// Compares the check and the choice on so many profiles, and on every profile that differs from the shipped one in one or two bits. How many
-/// calls that made, or what differs.
+/// Compares the check and the choice on so many profiles, and the check on every profile that differs from the shipped one in one or two bits
+/// or in one byte. How many calls that made, or what differs.
 pub fn compare(seed: u64, count: u64) -> Result<u64, String> {
     let mut calls = 0;
     for first in 0..256 {
@@ -88,6 +93,13 @@ pub fn compare(seed: u64, count: u64) -> Result<u64, String> {
             let mut profile = SHIPPED;
             profile[first / 8] ^= 1 << (first % 8);
             profile[second / 8] ^= u8::from(second != first) << (second % 8);
+            compare_check(&profile, &mut calls)?;
+        }
+    }
+    for position in 0..32 {
+        for byte in 0..=255 {
+            let mut profile = SHIPPED;
+            profile[position] = byte;
             compare_check(&profile, &mut calls)?;
         }
     }
@@ -167,6 +179,22 @@ mod tests {
         profile
     }
 
+    /// Document 02, R-6: levels, and their place among the refusals.
+    #[test]
+    fn water_levels() {
+        let refused = Err(Fault::WaterLevelAbove31);
+        for level in 0..64 {
+            assert_eq!(check(&with(&[(0x29, level)])), if level < 32 { Ok(()) } else { refused }, "level {level}");
+        }
+        assert_eq!(check(&with(&[(0x29, 0x60)])), Err(Fault::FixedBit { register: 0x29, bit: 6 }));
+        assert_eq!(check(&with(&[(0x29, 0x5F)])), Err(Fault::FixedBit { register: 0x29, bit: 6 }));
+        assert_eq!(check(&with(&[(0x29, 40), (0x26, 0x08)])), Err(Fault::FixedBit { register: 0x26, bit: 3 }));
+        assert_eq!(check(&with(&[(0x29, 40), (0x2A, 0x40)])), refused);
+        assert_eq!(check(&with(&[(0x29, 40), (0x2A, 24)])), refused);
+        assert_eq!(check(&with(&[(0x29, 40), (0x2C, 0)])), refused);
+        assert_eq!(Fault::WaterLevelAbove31.answer(), 0x29_0D);
+    }
+
     /// Document 01's numbers, and the order of refusals.
     #[test]
     fn profiles() {
@@ -187,8 +215,11 @@ mod tests {
 
     #[test]
     fn choices() {
-        let good = { [&[0; 16], &SHIPPED[..], &[0; 464]].concat() };
+        let image = |profile: &[u8]| [&[0; 16], profile, &[0; 464]].concat();
+        let good = image(&SHIPPED);
         let bad = vec![0xFF; 512];
+        let spinning = image(&with(&[(0x29, 32)]));
+        assert_eq!((choose(&spinning, &good), choose(&spinning, &spinning)), (0x200, 8));
         assert_eq!((choose(&good, &bad), choose(&bad, &good), choose(&bad, &bad)), (0x100, 0x200, 8));
         assert_eq!((choose(&good, &bad[..511]), choose(&good[..511], &good)), (2, 2));
     }

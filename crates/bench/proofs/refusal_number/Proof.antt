@@ -55,6 +55,18 @@ mul-result-4 c = search needs
 add-result-4 : tie.Need-add-result-4
 add-result-4 c = search needs
 
+enum-known-refusal-4 : tie.Need-enum-known-refusal-4
+enum-known-refusal-4 c = search needs
+
+cast-result-5 : tie.Need-cast-result-5
+cast-result-5 c = search needs
+
+mul-result-5 : tie.Need-mul-result-5
+mul-result-5 c = search needs
+
+add-result-5 : tie.Need-add-result-5
+add-result-5 c = search needs
+
 -- The number of a refusal is the number of its case.
 numbered : {refusal x : Refusal} → refusal ≡ x → profileNumber (refusalAnswer x) ≡ profileNumber (refusalAnswer refusal)
 numbered is = ap (λ (x : Refusal). profileNumber (refusalAnswer x)) (sym is)
@@ -70,6 +82,9 @@ returns-3 c = numbered (c .before .refusal2 .given .1)
 
 returns-4 : tie.Need-returns-4
 returns-4 c = numbered (c .before .refusal3 .given .1)
+
+returns-5 : tie.Need-returns-5
+returns-5 c = numbered (c .before .refusal4 .given .1)
 
 pub refusal-number-spec : {M : Type 1} → statement M
 refusal-number-spec =
@@ -91,7 +106,12 @@ refusal-number-spec =
     cast-result-4
     mul-result-4
     add-result-4
+    enum-known-refusal-4
+    cast-result-5
+    mul-result-5
+    add-result-5
     returns
     returns-2
     returns-3
-    returns-4)
+    returns-4
+    returns-5)

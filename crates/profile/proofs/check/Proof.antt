@@ -2,33 +2,30 @@
 use borrow.Author.Needs.{needs}
 use borrow.Author.Tests.{eq-eqb, ne-eqb}
 use mathlib.Core.Path.{_≡_, refl, sym, ap, _∙_}
-use mathlib.Core.Bool.{cond}
 use mathlib.Core.List.{List}
 use Prim.Native.Nat.{ℕ, _+_, _-_, _≤_, _<_}
 use native.Mathlib.Omega.{arith}
-use lib.ListN.{length, getD}
-use Rattle.profile.specs.Answer.{Answer, pass, refuse-bit, answerOf, orElse, refusalAnswer}
-use Rattle.profile.specs.FixedBits.{fixed, fixedBits}
-use Rattle.profile.specs.Check.{firstRefusal, byteFor, differsAt, bitJudged, fixedBitsJudged, timerJudged, registerJudged, judged}
-use Rattle.profile.specs.declared.FixedBits.{FixedBits}
+use Rattle.profile.specs.Answer.{Answer, refuse-bit, answerOf, orElse, refusalAnswer}
+use Rattle.profile.specs.FixedBits.{fixedBits}
+use Rattle.profile.specs.Check.{firstRefusal, bitJudged, fixedBitsJudged, valueJudged, registerJudged, judged}
 use Rattle.profile.specs.declared.Verdict.the-variants.{Pass}
-use Rattle.profile.proofs.Laws.{none-left, passes, stops, bit-passes, bit-refuses, bits-pass}
+use Rattle.profile.proofs.Laws.{none-left, passes, stops, refusal-stays, bit-passes, bit-refuses, bits-pass}
 use Rattle.profile.proofs.check.Statement.{statement}
 use Rattle.profile.proofs.check.Tie as tie
 
 abbrev Inv-loop : tie.InvT-loop
-Inv-loop profile clock control reload verdict₀ position register fixed byte bit₀ verdict bit =
-    (bit ≤ 8) × (verdict ≡ verdict₀) × (firstRefusal (bitJudged fixedBits profile register) (8 - bit) bit ≡ fixedBitsJudged fixedBits profile register)
+Inv-loop profile position register fixed byte bit₀ bit =
+    (bit ≤ 8) × (firstRefusal (bitJudged fixedBits profile register) (8 - bit) bit ≡ fixedBitsJudged fixedBits profile register)
 
 abbrev μ-loop : tie.MeasureT-loop
-μ-loop profile clock control reload verdict₀ position register fixed byte bit₀ verdict bit = 8 - bit
+μ-loop profile position register fixed byte bit₀ bit = 8 - bit
 
 abbrev Inv-registers : tie.InvT-registers
-Inv-registers profile clock control reload verdict₀ position₀ verdict position =
+Inv-registers profile verdict₀ position₀ verdict position =
     (position ≤ 32) × (verdict ≡ Pass) × (firstRefusal (registerJudged fixedBits profile) (32 - position) (0x10 + position) ≡ judged fixedBits profile)
 
 abbrev μ-registers : tie.MeasureT-registers
-μ-registers profile clock control reload verdict₀ position₀ verdict position = 32 - position
+μ-registers profile verdict₀ position₀ verdict position = 32 - position
 
 -- What is known at each turn of the loop over bits, of the register that it is for.
 module _ (turn : tie.At-loop Inv-loop μ-loop Inv-registers μ-registers) where
@@ -36,7 +33,7 @@ module _ (turn : tie.At-loop Inv-loop μ-loop Inv-registers μ-registers) where
   row = turn .before .before .before .before
 
   abbrev profile : List ℕ
-  profile = row .before .before .before .before .before .before .args .profile .now
+  profile = row .before .before .before .args .profile .now
 
   abbrev register : ℕ
   register = 0x10 + row .registers .position
@@ -47,38 +44,17 @@ module _ (turn : tie.At-loop Inv-loop μ-loop Inv-registers μ-registers) where
       sym (stops (registerJudged fixedBits profile) (32 - row .registers .position) register a (omega arith) is refuses)
       ∙ row .registers .inv .2
 
-  -- and the timer's, where all its bits hold
-  by-timer : 8 ≤ turn .loop .bit → registerJudged fixedBits profile register ≡ timerJudged profile register
-  by-timer h = bits-pass fixedBits profile (row .registers .position) (turn .loop .bit) h (turn .loop .inv .2)
+  -- and the values' verdict is the register's, where all its bits hold
+  by-value : 8 ≤ turn .loop .bit → registerJudged fixedBits profile register ≡ valueJudged profile register
+  by-value h = bits-pass fixedBits profile (row .registers .position) (turn .loop .bit) h (turn .loop .inv .1)
 
 returns : tie.Need-returns Inv-loop μ-loop Inv-registers μ-registers
 unfolding judged
 returns c = simp (ne-eqb _ _ (c .if1 .taken))
 
-sub-clock : tie.Need-sub-clock Inv-loop μ-loop Inv-registers μ-registers
-sub-clock c = search needs
-
-shared-slice-read-clock :
-    tie.Need-shared-slice-read-clock Inv-loop μ-loop Inv-registers μ-registers
-shared-slice-read-clock c = search needs
-
-sub-control : tie.Need-sub-control Inv-loop μ-loop Inv-registers μ-registers
-sub-control c = search needs
-
-shared-slice-read-control :
-    tie.Need-shared-slice-read-control Inv-loop μ-loop Inv-registers μ-registers
-shared-slice-read-control c = search needs
-
-sub-reload : tie.Need-sub-reload Inv-loop μ-loop Inv-registers μ-registers
-sub-reload c = search needs
-
-shared-slice-read-reload :
-    tie.Need-shared-slice-read-reload Inv-loop μ-loop Inv-registers μ-registers
-shared-slice-read-reload c = search needs
-
 registers-holds : tie.Need-registers-holds Inv-loop μ-loop Inv-registers μ-registers
 unfolding judged
-registers-holds c = (search needs, refl, simp (eq-eqb _ _ (c .before .before .before .if1 .left)))
+registers-holds c = (search needs, refl, simp (eq-eqb _ _ (c .if1 .left)))
 
 add-register : tie.Need-add-register Inv-loop μ-loop Inv-registers μ-registers
 add-register c = search needs
@@ -93,7 +69,7 @@ shared-slice-read-byte : tie.Need-shared-slice-read-byte Inv-loop μ-loop Inv-re
 shared-slice-read-byte c = search needs
 
 loop-holds : tie.Need-loop-holds Inv-loop μ-loop Inv-registers μ-registers
-loop-holds c = (search needs, refl, refl)
+loop-holds c = (search needs, refl)
 
 differs-requires : tie.Need-differs-requires Inv-loop μ-loop Inv-registers μ-registers
 differs-requires c κs = search needs
@@ -108,20 +84,20 @@ loop-again : tie.Need-loop-again Inv-loop μ-loop Inv-registers μ-registers
 loop-again c =
     let turn = c .before .before .before in (
       search needs,
-      turn .loop .inv .1,
       passes (bitJudged fixedBits (profile turn) (register turn)) (omega arith) refl
           (bit-passes fixedBits (profile turn) (row turn .registers .position) (turn .before .before .fixed-bits .result) (turn .loop .bit)
           (turn .before .before .fixed-bits .ensures) (sym (c .before .differs .ensures) ∙ c .if2 .left))
-          ∙ turn .loop .inv .2,
+          ∙ turn .loop .inv .1,
     )
 
-prescaler-refused-requires :
-    tie.Need-prescaler-refused-requires Inv-loop μ-loop Inv-registers μ-registers
-prescaler-refused-requires c κs = search needs
+value-verdict-requires : tie.Need-value-verdict-requires Inv-loop μ-loop Inv-registers μ-registers
+value-verdict-requires c κs = search needs
 
-reload-refused-requires :
-    tie.Need-reload-refused-requires Inv-loop μ-loop Inv-registers μ-registers
-reload-refused-requires c κs = search needs
+enum-told : tie.Need-enum-told Inv-loop μ-loop Inv-registers μ-registers
+enum-told c = search needs
+
+enum-told-2 : tie.Need-enum-told-2 Inv-loop μ-loop Inv-registers μ-registers
+enum-told-2 c = search needs
 
 add-position : tie.Need-add-position Inv-loop μ-loop Inv-registers μ-registers
 add-position c = search needs
@@ -131,19 +107,18 @@ registers-less c = search needs
 
 registers-again : tie.Need-registers-again Inv-loop μ-loop Inv-registers μ-registers
 registers-again c =
-    let turn = c .before .before .before .before .before in (
+    let turn = c .before .before .before .before in (
       search needs,
-      turn .loop .inv .1 ∙ row turn .registers .inv .1,
+      c .enum-told .given .1,
       passes (registerJudged fixedBits (profile turn)) (omega arith) (omega arith)
-          (by-timer turn (search needs)
-          ∙ simp (sym (c .before .before .before .prescaler-refused .ensures) ∙ c .before .before .if3 .left, sym (c .before .reload-refused .ensures) ∙ c .if4 .left))
+          (by-value turn (search needs) ∙ sym (c .before .before .value-verdict .ensures) ∙ ap answerOf (c .enum-told .given .1))
           ∙ row turn .registers .inv .2,
     )
 
 returns-2 : tie.Need-returns-2 Inv-loop μ-loop Inv-registers μ-registers
 returns-2 c =
     let end = c .before in
-    let profile = end .before .before .before .before .before .before .args .profile .now in
+    let profile = end .before .before .before .args .profile .now in
     ap answerOf (end .registers .inv .1)
     ∙ sym (none-left (registerJudged fixedBits profile) (32 - end .registers .position) (0x10 + end .registers .position) (omega arith))
     ∙ end .registers .inv .2
@@ -152,25 +127,20 @@ returns-3 : tie.Need-returns-3 Inv-loop μ-loop Inv-registers μ-registers
 returns-3 c =
     let turn = c .before .before .before in
     let bit : fixedBitsJudged fixedBits (profile turn) (register turn) ≡ refuse-bit 10 (register turn) (turn .loop .bit) =
-    sym (turn .loop .inv .2)
+    sym (turn .loop .inv .1)
     ∙ stops (bitJudged fixedBits (profile turn) (register turn)) (8 - turn .loop .bit) (turn .loop .bit) _ (omega arith)
     (bit-refuses fixedBits (profile turn) (row turn .registers .position) (turn .before .before .fixed-bits .result) (turn .loop .bit)
     (turn .before .before .fixed-bits .ensures) (sym (c .before .differs .ensures) ∙ c .if2 .taken))
     (λ rest. refl) in
-    refused turn _ (search needs) (ap (λ (a : Answer). orElse a (timerJudged (profile turn) (register turn))) bit) (λ rest. refl)
+    refused turn _ (search needs) (ap (λ (a : Answer). orElse a (valueJudged (profile turn) (register turn))) bit) (λ rest. refl)
 
 returns-4 : tie.Need-returns-4 Inv-loop μ-loop Inv-registers μ-registers
 returns-4 c =
-    let turn = c .before .before .before in
-    refused turn _ (search needs) (by-timer turn (search needs) ∙ simp (sym (c .before .prescaler-refused .ensures) ∙ c .if3 .taken)) (λ rest. refl)
-
-returns-5 : tie.Need-returns-5 Inv-loop μ-loop Inv-registers μ-registers
-returns-5 c =
-    let turn = c .before .before .before .before .before in
-    refused turn _ (search needs)
-    (by-timer turn (search needs)
-    ∙ simp (sym (c .before .before .before .prescaler-refused .ensures) ∙ c .before .before .if3 .left, sym (c .before .reload-refused .ensures) ∙ c .if4 .taken))
-    (λ rest. refl)
+    let turn = c .before .before .before .before in
+    let refusal = c .enum-told2 .given .0 .0 in
+    let answer = ap answerOf (c .enum-told2 .given .1) in
+    answer
+    ∙ refused turn (refusalAnswer refusal) (search needs) (by-value turn (search needs) ∙ sym (c .before .before .value-verdict .ensures) ∙ answer) (refusal-stays refusal)
 
 pub check-spec : {M : Type 1} → statement M
 check-spec =
@@ -181,12 +151,6 @@ check-spec =
     Inv-registers
     μ-registers
     returns
-    sub-clock
-    shared-slice-read-clock
-    sub-control
-    shared-slice-read-control
-    sub-reload
-    shared-slice-read-reload
     registers-holds
     add-register
     cast-register
@@ -197,12 +161,12 @@ check-spec =
     add-bit
     loop-less
     loop-again
-    prescaler-refused-requires
-    reload-refused-requires
+    value-verdict-requires
+    enum-told
+    enum-told-2
     add-position
     registers-less
     registers-again
     returns-2
     returns-3
-    returns-4
-    returns-5)
+    returns-4)

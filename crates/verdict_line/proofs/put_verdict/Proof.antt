@@ -59,6 +59,12 @@ enum-known-refusal-3 c = search needs
 put-refuse-at-requires-2 : tie.Need-put-refuse-at-requires-2
 put-refuse-at-requires-2 c κs = search needs
 
+enum-known-refusal-4 : tie.Need-enum-known-refusal-4
+enum-known-refusal-4 c = search needs
+
+put-refuse-at-requires-3 : tie.Need-put-refuse-at-requires-3
+put-refuse-at-requires-3 c κs = search needs
+
 same-length-2 : tie.Need-same-length-2
 same-length-2 c = search needs
 
@@ -95,6 +101,15 @@ returns-5 c =
     let arm = call .before .before .before in
     (search needs, as-text (text-of (arm .before .before .before .verdict .given .1) (arm .refusal3 .given .1)) (call .put-refuse-at2 .ensures .1))
 
+same-length-6 : tie.Need-same-length-6
+same-length-6 c = search needs
+
+returns-6 : tie.Need-returns-6
+returns-6 c =
+    let call = c .before .before in
+    let arm = call .before .before .before in
+    (search needs, as-text (text-of (arm .before .before .before .verdict .given .1) (arm .refusal4 .given .1)) (call .put-refuse-at3 .ensures .1))
+
 pub put-verdict-spec : {M : Type 1} → statement M
 put-verdict-spec =
     tie.close
@@ -113,6 +128,8 @@ put-verdict-spec =
     put-refuse-at-requires
     enum-known-refusal-3
     put-refuse-at-requires-2
+    enum-known-refusal-4
+    put-refuse-at-requires-3
     same-length-2
     returns-2
     same-length-3
@@ -120,4 +137,6 @@ put-verdict-spec =
     same-length-4
     returns-4
     same-length-5
-    returns-5)
+    returns-5
+    same-length-6
+    returns-6)

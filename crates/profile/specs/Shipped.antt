@@ -12,9 +12,13 @@ shipped =
     ∷ 0x00 ∷ 0x08 ∷ 0x07 ∷ 0x06 ∷ 0x0A ∷ 0x02 ∷ 0x00 ∷ 0x00
     ∷ []
 
+-- A profile with another byte for one register.
+abbrev pub withByte : ℕ → ℕ → List ℕ → List ℕ
+withByte register byte profile = set profile (register - 0x10) byte
+
 -- The shipped profile with another byte for one register.
 abbrev pub shippedWith : ℕ → ℕ → List ℕ
-shippedWith register byte = set shipped (register - 0x10) byte
+shippedWith register byte = withByte register byte shipped
 
 -- A memory image with the shipped profile at 010h-02Fh and zeros elsewhere.
 abbrev pub shippedImage : List ℕ

@@ -7,7 +7,7 @@ use native.Mathlib.Omega.{arith}
 use mathlib.Core.Bool.{Bool, true, false, cond}
 use mathlib.Core.List.{List}
 use lib.ListN.{getD}
-use Rattle.profile.specs.Answer.{Answer, pass, refuse-bit, orElse, refusalAnswer}
+use Rattle.profile.specs.Answer.{Answer, pass, refuse-bit, isPass, orElse, refusalAnswer}
 use Rattle.profile.specs.FixedBits.{fixed}
 use Rattle.profile.specs.Check.{firstRefusal, differsAt, bitJudged, fixedBitsJudged, valueJudged, registerJudged}
 use Rattle.profile.specs.declared.FixedBits.{FixedBits}
@@ -29,18 +29,20 @@ passes judge {n} {left} {from} {next} one-less one-more ok =
     ∙ sym (ap (λ (m : ℕ). firstRefusal judge m from) one-less)
 
 -- A refusal ends the search.
-pub stops : (judge : ℕ → Answer) (n from : ℕ) (a : Answer) → 0 < n → judge from ≡ a → ((rest : Answer) → orElse a rest ≡ a) → firstRefusal judge n from ≡ a
+pub stops : (judge : ℕ → Answer) (n from : ℕ) (a : Answer) → 0 < n → judge from ≡ a → isPass a ≡ false → firstRefusal judge n from ≡ a
 unfolding firstRefusal
 stops judge zero from a h is refuses = absurd (not-suc-le-zero h)
-stops judge (suc n) from a h is refuses = ap (λ (b : Answer). orElse b (firstRefusal judge n (from + 1))) is ∙ refuses (firstRefusal judge n (from + 1))
+stops judge (suc n) from a h is refuses =
+    ap (λ (b : Answer). orElse b (firstRefusal judge n (from + 1))) is
+    ∙ ap (λ (t : Bool). cond t (firstRefusal judge n (from + 1)) a) refuses
 
--- A refusal is the first one, whatever else is judged.
-pub refusal-stays : (x : Refusal) (rest : Answer) → orElse (refusalAnswer x) rest ≡ refusalAnswer x
-refusal-stays Length rest = refl
-refusal-stays (FixedBit register bit) rest = refl
-refusal-stays (PreScaler register) rest = refl
-refusal-stays (Reload register) rest = refl
-refusal-stays (WaterLevel register) rest = refl
+-- No refusal of the check is a pass.
+pub refusal-fails : (x : Refusal) → isPass (refusalAnswer x) ≡ false
+refusal-fails Length = refl
+refusal-fails (FixedBit register bit) = refl
+refusal-fails (PreScaler register) = refl
+refusal-fails (Reload register) = refl
+refusal-fails (WaterLevel register) = refl
 
 -- What is judged at the register of a position, from the tests that the program makes.
 module _ (table : List FixedBits) (profile : List ℕ) (position : ℕ) where

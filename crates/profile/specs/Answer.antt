@@ -2,6 +2,7 @@
 -- numbers", and document 02, R-6.
 -- Assumes nothing.
 use Prim.Native.Nat.{ℕ}
+use mathlib.Core.Bool.{Bool, true, false, cond}
 use Rattle.profile.specs.declared.Verdict.{Verdict}
 use Rattle.profile.specs.declared.Verdict.the-variants.{Pass, Refused}
 use Rattle.profile.specs.declared.Refusal.{Refusal}
@@ -16,12 +17,15 @@ pub data Answer : Type 0 where
   -- the number, the register address and the bit
   refuse-bit : ℕ → ℕ → ℕ → Answer
 
--- The first answer that is a refusal.
+abbrev pub isPass : Answer → Bool
+isPass pass = true
+isPass (refuse n) = false
+isPass (refuse-at n register) = false
+isPass (refuse-bit n register bit) = false
+
+-- The first of two answers that is a refusal; pass where neither is.
 abbrev pub orElse : Answer → Answer → Answer
-orElse pass a = a
-orElse (refuse n) a = refuse n
-orElse (refuse-at n r) a = refuse-at n r
-orElse (refuse-bit n r b) a = refuse-bit n r b
+orElse a b = cond (isPass a) b a
 
 -- The number and values of the papers for each case of the program's enums.
 abbrev pub refusalAnswer : Refusal → Answer

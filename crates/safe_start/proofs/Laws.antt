@@ -8,18 +8,7 @@ use native.Mathlib.Omega.{arith}
 use lib.Dec.{eqb}
 use lib.ListN.{length, take, drop, length-take, length-drop}
 use borrow.Author.Tests.{eqb-true}
-use Rattle.profile.specs.Answer.{refusalAnswer}
-use Rattle.profile.specs.declared.Refusal.{Refusal}
-use Rattle.profile.specs.declared.Refusal.the-variants.{Length, FixedBit, PreScaler, Reload, WaterLevel}
-use Rattle.safe_start.specs.Choice.{isPass, Chosen, from-user, from-rescue, refused, chosen, startUpProfile, partOf}
-
--- No refusal of the check is a pass.
-pub refusal-fails : (x : Refusal) → isPass (refusalAnswer x) ≡ false
-refusal-fails Length = refl
-refusal-fails (FixedBit register bit) = refl
-refusal-fails (PreScaler register) = refl
-refusal-fails (Reload register) = refl
-refusal-fails (WaterLevel register) = refl
+use Rattle.safe_start.specs.Choice.{Chosen, from-user, from-rescue, refused, chosen, startUpProfile, partOf}
 
 -- Where the choice is not refusal 2, both images are 512 bytes.
 pub images-whole : (user rescue : List ℕ) (x : Chosen) → x ≡ chosen user rescue → (x ≡ refused 2 → ⊥) → (length user ≡ 512) × (length rescue ≡ 512)

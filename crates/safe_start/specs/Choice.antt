@@ -2,11 +2,11 @@
 -- image if they pass, else of the rescue image". It "gives 2 or 8 only".
 -- Assumes nothing.
 use Prim.Native.Nat.{ℕ}
-use mathlib.Core.Bool.{Bool, true, false, _&&_, cond}
+use mathlib.Core.Bool.{Bool, _&&_, cond}
 use mathlib.Core.List.{List, []}
 use lib.Dec.{eqb}
 use lib.ListN.{length, take, drop}
-use Rattle.profile.specs.Answer.{Answer, pass, refuse, refuse-at, refuse-bit}
+use Rattle.profile.specs.Answer.{isPass}
 use Rattle.profile.specs.FixedBits.{fixedBits}
 use Rattle.profile.specs.Check.{judged}
 use Rattle.safe_start.specs.declared.Choice.{Choice}
@@ -15,12 +15,6 @@ use Rattle.safe_start.specs.declared.Choice.the-variants.{User, Rescue, 
 -- The start-up profile of an image: its bytes 010h-02Fh.
 abbrev pub startUpProfile : List ℕ → List ℕ
 startUpProfile image = take 0x20 (drop 0x10 image)
-
-abbrev pub isPass : Answer → Bool
-isPass pass = true
-isPass (refuse n) = false
-isPass (refuse-at n register) = false
-isPass (refuse-bit n register bit) = false
 
 -- The image's start-up profile passes the check.
 unfoldable pub passing : List ℕ → Bool

@@ -2,14 +2,15 @@
 use borrow.Author.Needs.{needs}
 use borrow.Author.Tests.{eq-eqb, ne-eqb}
 use mathlib.Core.Path.{_≡_, refl, sym, ap, _∙_}
+use mathlib.Core.Bool.{false}
 use mathlib.Core.List.{List}
 use Prim.Native.Nat.{ℕ, _+_, _-_, _≤_, _<_}
 use native.Mathlib.Omega.{arith}
-use Rattle.profile.specs.Answer.{Answer, refuse-bit, answerOf, orElse, refusalAnswer}
+use Rattle.profile.specs.Answer.{Answer, refuse-bit, isPass, orElse, answerOf, refusalAnswer}
 use Rattle.profile.specs.FixedBits.{fixedBits}
 use Rattle.profile.specs.Check.{firstRefusal, bitJudged, fixedBitsJudged, valueJudged, registerJudged, judged}
 use Rattle.profile.specs.declared.Verdict.the-variants.{Pass}
-use Rattle.profile.proofs.Laws.{none-left, passes, stops, refusal-stays, bit-passes, bit-refuses, bits-pass}
+use Rattle.profile.proofs.Laws.{none-left, passes, stops, refusal-fails, bit-passes, bit-refuses, bits-pass}
 use Rattle.profile.proofs.check.Statement.{statement}
 use Rattle.profile.proofs.check.Tie as tie
 
@@ -39,7 +40,7 @@ module _ (turn : tie.At-loop Inv-loop μ-loop Inv-registers μ-registers) where
   register = 0x10 + row .registers .position
 
   -- the register's verdict is the whole's, where it is a refusal
-  refused : (a : Answer) → row .registers .position < 32 → registerJudged fixedBits profile register ≡ a → ((rest : Answer) → orElse a rest ≡ a) → a ≡ judged fixedBits profile
+  refused : (a : Answer) → row .registers .position < 32 → registerJudged fixedBits profile register ≡ a → isPass a ≡ false → a ≡ judged fixedBits profile
   refused a h is refuses =
       sym (stops (registerJudged fixedBits profile) (32 - row .registers .position) register a (omega arith) is refuses)
       ∙ row .registers .inv .2
@@ -131,8 +132,8 @@ returns-3 c =
     ∙ stops (bitJudged fixedBits (profile turn) (register turn)) (8 - turn .loop .bit) (turn .loop .bit) _ (omega arith)
     (bit-refuses fixedBits (profile turn) (row turn .registers .position) (turn .before .before .fixed-bits .result) (turn .loop .bit)
     (turn .before .before .fixed-bits .ensures) (sym (c .before .differs .ensures) ∙ c .if2 .taken))
-    (λ rest. refl) in
-    refused turn _ (search needs) (ap (λ (a : Answer). orElse a (valueJudged (profile turn) (register turn))) bit) (λ rest. refl)
+    refl in
+    refused turn _ (search needs) (ap (λ (a : Answer). orElse a (valueJudged (profile turn) (register turn))) bit) refl
 
 returns-4 : tie.Need-returns-4 Inv-loop μ-loop Inv-registers μ-registers
 returns-4 c =
@@ -140,7 +141,7 @@ returns-4 c =
     let refusal = c .enum-told2 .given .0 .0 in
     let answer = ap answerOf (c .enum-told2 .given .1) in
     answer
-    ∙ refused turn (refusalAnswer refusal) (search needs) (by-value turn (search needs) ∙ sym (c .before .before .value-verdict .ensures) ∙ answer) (refusal-stays refusal)
+    ∙ refused turn (refusalAnswer refusal) (search needs) (by-value turn (search needs) ∙ sym (c .before .before .value-verdict .ensures) ∙ answer) (refusal-fails refusal)
 
 pub check-spec : {M : Type 1} → statement M
 check-spec =

@@ -1,9 +1,9 @@
 -- `safe_start::passes` meets its contract, by the verdict's case. Assumes nothing.
 use borrow.Author.Needs.{needs}
 use mathlib.Core.Path.{ap, sym, _∙_}
-use Rattle.profile.specs.Answer.{answerOf}
-use Rattle.safe_start.specs.Choice.{isPass, passing}
-use Rattle.safe_start.proofs.Laws.{refusal-fails}
+use Rattle.profile.specs.Answer.{isPass, answerOf}
+use Rattle.profile.proofs.Laws.{refusal-fails}
+use Rattle.safe_start.specs.Choice.{passing}
 use Rattle.safe_start.proofs.passes.Statement.{statement}
 use Rattle.safe_start.proofs.passes.Tie as tie
 

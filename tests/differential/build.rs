@@ -1,5 +1,5 @@
-//! Links the library under test: `MFRC531_LIB_DIR` is its folder, `MFRC531_LIB` its name without `lib` and `.a` (`bench` if not given).
-//! With the feature `stub` nothing is linked.
+//! Links the library under test: `MFRC531_LIB_DIR` is its folder, `MFRC531_LIB` its name without `lib` and `.a` (`bench` if not given); and
+//! beside it `crc_exports`, by which the checksum over slices is compared and timed. With the feature `stub` nothing is linked.
 
 use std::env;
 
@@ -13,7 +13,9 @@ fn main() {
         panic!("set MFRC531_LIB_DIR to the folder of the library under test, or give --features stub to do without it");
     };
     let name = env::var("MFRC531_LIB").unwrap_or_else(|_| "bench".to_string());
-    println!("cargo:rerun-if-changed={folder}/lib{name}.a");
     println!("cargo:rustc-link-search=native={folder}");
-    println!("cargo:rustc-link-lib=static={name}");
+    for library in [name.as_str(), "crc_exports"] {
+        println!("cargo:rerun-if-changed={folder}/lib{library}.a");
+        println!("cargo:rustc-link-lib=static={library}");
+    }
 }

@@ -1,2 +1,4 @@
 pub mod Below
 pub mod Bytes
+pub mod ConstantArms
+pub mod Xor

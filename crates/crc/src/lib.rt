@@ -1,26 +1,16 @@
-// The checksum unit: both polynomials of document 01, bit by bit, over one byte and over a slice.
+// The checksum unit: both polynomials of document 01, over one byte and over a slice. A byte of a 16-bit checksum is one lookup in a table of 256
+// entries; a byte of CRC8 goes bit by bit.
 //
 // `redundancy` is the byte of ChannelRedundancy (22h): bit 4 chooses CRC8, bit 5 complements a 16-bit result.
 // `register` is the CRC register. Every function takes any numbers.
 ghost use mathlib.Core.Path.{_≡_};
-ghost use Rattle.crc.specs.Checksum.{afterBit, afterByte, tapsOf, presetOf, absorbed, absorbedAll, resultOf};
+ghost use Rattle.crc.specs.Checksum.{afterBit, afterByte, taps16, presetOf, absorbed, absorbedAll, resultOf};
 ghost use Rattle.crc.specs.Checksum.{checksum as Checksum·checksum};
 
-// x^16 + x^12 + x^5 + 1, least bit first.
-const TAPS_16: u16 = 0x8408;
+mod table; // table.rt: the table of the 16-bit polynomial
 
 // x^8 + x^4 + x^3 + x^2 + 1, least bit first.
 const TAPS_8: u16 = 0xB8;
-
-fn taps_of(redundancy: u8) -> u16
-    ensures { λ r. ⌜ r ≡ tapsOf redundancy ⌝ }
-{
-    if redundancy / 16 % 2 == 1 {
-        TAPS_8
-    } else {
-        TAPS_16
-    }
-}
 
 fn after_bit(taps: u16, register: u16) -> u16
     ensures { λ r. ⌜ r ≡ afterBit taps register ⌝ }
@@ -32,6 +22,7 @@ fn after_bit(taps: u16, register: u16) -> u16
     }
 }
 
+// The register after one more byte, bit by bit.
 fn after_byte(taps: u16, register: u16, byte: u8) -> u16
     ensures { λ r. ⌜ r ≡ afterByte taps register byte ⌝ }
 {
@@ -42,6 +33,14 @@ fn after_byte(taps: u16, register: u16, byte: u8) -> u16
         left -= 1;
     }
     next
+}
+
+// The register after one more byte of a 16-bit checksum: its high byte moves down, and the entry for what falls out is added.
+fn after_byte_16(register: u16, byte: u8) -> u16
+    ensures { λ r. ⌜ r ≡ afterByte taps16 register byte ⌝ }
+{
+    let mixed = register ^ (byte as u16);
+    (mixed / 256) ^ table::entry((mixed % 256) as u8)
 }
 
 // The register that a checksum starts with, from CRCPresetLSB (23h) and CRCPresetMSB (24h).
@@ -59,18 +58,21 @@ pub fn preset(redundancy: u8, lsb: u8, msb: u8) -> u16
 pub fn absorb(redundancy: u8, register: u16, byte: u8) -> u16
     ensures { λ r. ⌜ r ≡ absorbed redundancy register byte ⌝ }
 {
-    after_byte(taps_of(redundancy), register, byte)
+    if redundancy / 16 % 2 == 1 {
+        after_byte(TAPS_8, register, byte)
+    } else {
+        after_byte_16(register, byte)
+    }
 }
 
 // The register after all bytes of a slice, in order.
 pub fn absorb_all(redundancy: u8, register: u16, bytes: &[u8]) -> u16
     ensures { λ r. ⌜ r ≡ absorbedAll redundancy register (now (bytes .entry)) ⌝ }
 {
-    let taps = taps_of(redundancy);
     let mut next = register;
     let mut i = 0;
     while i < bytes.len() {
-        next = after_byte(taps, next, bytes[i]);
+        next = absorb(redundancy, next, bytes[i]);
         i += 1;
     }
     next

@@ -25,6 +25,8 @@ extern "C" {
     ) -> u32;
     pub fn mfrc531_check_profile(profile: *const u8, length: usize) -> u32;
     pub fn mfrc531_choose(user: *const u8, user_length: usize, rescue: *const u8, rescue_length: usize) -> u32;
+    /// Of the crate `crc_exports`, for this test alone.
+    pub fn crc_absorb_all(redundancy: u8, register: u16, bytes: *const u8, length: usize) -> u16;
 }
 
 #[cfg(feature = "stub")]
@@ -33,6 +35,7 @@ pub use stub::*;
 #[cfg(feature = "stub")]
 mod stub {
     use super::ChipMemory;
+    use crate::checksum;
     use crate::chip_memory::{plain_of, store};
     use crate::plain::{Chip, Refusal};
     use crate::profile;
@@ -101,5 +104,9 @@ mod stub {
 
     pub unsafe fn mfrc531_choose(user: *const u8, user_length: usize, rescue: *const u8, rescue_length: usize) -> u32 {
         profile::choose(slice::from_raw_parts(user, user_length), slice::from_raw_parts(rescue, rescue_length))
+    }
+
+    pub unsafe fn crc_absorb_all(redundancy: u8, register: u16, bytes: *const u8, length: usize) -> u16 {
+        checksum::bit_by_bit(redundancy, register, slice::from_raw_parts(bytes, length))
     }
 }

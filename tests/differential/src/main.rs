@@ -2,6 +2,7 @@
 //! every lent byte and the whole chip are compared. See README.md.
 
 mod call;
+mod checksum;
 mod chip_memory;
 mod edges;
 mod generate;
@@ -54,6 +55,8 @@ fn main() -> ExitCode {
         Ok(options) => {
             let good = if options.race {
                 race::run();
+                println!();
+                checksum::race();
                 true
             } else if let Some(file) = &options.replay {
                 replay(file)
@@ -131,9 +134,19 @@ fn compare(options: &Options) -> bool {
             return false;
         }
     };
+    let checksums = match checksum::compare(options.seed, options.calls / 100) {
+        Ok(calls) => calls,
+        Err(message) => {
+            println!("DIFFERENCE (seed {}) in a checksum over a slice: {message}", options.seed);
+            return false;
+        }
+    };
     match run::<NONE>(options) {
         Ok(statistics) => {
-            println!("No difference, {:.1} s. {statistics}; besides, {profiles} profile checks and choices", begin.elapsed().as_secs_f64());
+            println!(
+                "No difference, {:.1} s. {statistics}; besides, {profiles} profile checks and choices, {checksums} checksums over slices",
+                begin.elapsed().as_secs_f64()
+            );
             true
         }
         Err(failure) => {

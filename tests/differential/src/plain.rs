@@ -118,7 +118,7 @@ mod setting {
 }
 
 /// Bits of ChannelRedundancy (22h).
-mod redundancy {
+pub mod redundancy {
     pub const CRC_3309: u8 = 1 << 5;
     pub const CRC_8: u8 = 1 << 4;
     pub const RX_CRC: u8 = 1 << 3;
@@ -199,7 +199,7 @@ impl Default for Fifo {
 // ---- Checksums -------------------------------------------------------------------------------------------------------------------------
 
 /// x^16 + x^12 + x^5 + 1, least bit first, for each byte.
-static TABLE_16: [u16; 256] = table_16();
+pub static TABLE_16: [u16; 256] = table_16();
 /// x^8 + x^4 + x^3 + x^2 + 1, least bit first, for each byte.
 static TABLE_8: [u8; 256] = table_8();
 

@@ -1,6 +1,7 @@
 //! The plain chip by itself: document 01's "Numbers to meet" and "Readings that look right and aren't", and some traps beside them.
 
 use crate::call::{Fill, Image};
+use crate::checksum::bit_by_bit;
 use crate::chip_memory::{difference, plain_of, store, Memory, SIZE};
 use crate::plain::{error, key_of, request, stored_nibble, Chip, Command, Refusal, Taken, Writing, PROGRAMMING_CLOCKS};
 use crate::random::Random;
@@ -99,6 +100,16 @@ fn checksum_tables() {
         assert_eq!(checksum(0x20, preset, &bytes), (!wide).to_le_bytes());
         assert_eq!(checksum(0x10, preset, &bytes), [narrow, 0]);
     }
+}
+
+/// What slices are compared with, at the published check values of "123456789": CRC-16/ISO-IEC-14443-3-A, CRC-16/X-25, and polynomial 1Dh
+/// reflected with preset FFh.
+#[test]
+fn published_checksums() {
+    let digits = b"123456789";
+    assert_eq!(bit_by_bit(0x00, 0x6363, digits), 0xBF05);
+    assert_eq!(!bit_by_bit(0x00, 0xFFFF, digits), 0x906E);
+    assert_eq!(bit_by_bit(0x10, 0x00FF, digits), 0x0097);
 }
 
 const STORED: [u8; 12] = [0x5A, 0xF0, 0x5A, 0xE1, 0x5A, 0xD2, 0x5A, 0xC3, 0x5A, 0xB4, 0x5A, 0xA5];

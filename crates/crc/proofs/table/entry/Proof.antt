@@ -1,5 +1,5 @@
--- `crc::table::entry` meets its contract: each constant is computed and compared with the rule. The arms of its `match` are answered together, by
--- one law, in place of one need for each.
+-- `crc::table::entry` meets its contract: the checker computes the rule at every byte and compares it with the arm's constant. One law answers for
+-- all 256 arms, in place of a need for each.
 -- Assumes nothing.
 use mathlib.Core.Path.{_≡_, _∙_, ap}
 use mathlib.Core.List.{List}
@@ -23,6 +23,8 @@ use Rattle.crc.proofs.table.entry.Tie as tie
 flipped-back : (byte : ℕ) → bitXor (bitXor byte 128) 128 ≡ byte
 flipped-back byte = xor-assoc byte 128 128 ∙ xor-zero-r byte
 
+-- What is asked before the function runs, by the kit's rules: nothing of `byte ^ 128`, and of each arm its constant. An arm that returns owes the
+-- contract, and of the two locals nothing.
 asked : (κs : Lfts 0) (qs : Shares 0) (a : Dens κs lts.ps) → GoodsP κs lts.ps a → reads.Pre κs a → List ℕ
     → lts.Φ reads.Pre reads.Post (wantQ 0 lts.ps lts.r lts.xs lts.m κs qs a (reads.Post κs a)) (init 0 lts.ps lts.r lts.xs lts.m κs qs a)
 unfolding afterBits afterBit

@@ -8,7 +8,7 @@ use std::hint::black_box;
 use std::time::Instant;
 
 /// The library's register after a slice.
-pub fn library(redundancy: u8, register: u16, bytes: &[u8]) -> u16 {
+fn library(redundancy: u8, register: u16, bytes: &[u8]) -> u16 {
     // SAFETY: the slice is lent for the call alone, with its own length.
     unsafe { lib::crc_absorb_all(redundancy, register, bytes.as_ptr(), bytes.len()) }
 }

@@ -1,0 +1,6 @@
+pub mod TurnLaws
+pub mod StoreLaws
+pub mod FlagLaws
+pub mod RingLaws
+pub mod StageLaws
+pub mod MeetLaws

@@ -1,0 +1,71 @@
+-- When a chip is well formed: document 01's sentence, clause by clause. `machine` judges what a machine shows (its WellFormed.antt); here stands what
+-- only the chip's own fields show. A field that the active command does not use is judged only where a clause names it.
+-- Assumes nothing.
+use Prim.Native.Nat.{ℕ, _+_, _%_}
+use mathlib.Core.Bool.{Bool, true, cond, not, _&&_, _||_}
+use lib.Dec.{ltb, leb, eqb}
+use Rattle.bits.specs.Bits.{bit}
+use Rattle.bits.proofs.Below.{all}
+use Rattle.machine.specs.WellFormed.{wellFormed}
+use Rattle.state.specs.View.{Core, at, core, view, batchStart}
+use Rattle.state.specs.declared.Chip.{Chip}
+
+-- "the command is one listed here, and sending or receiving agrees with it".
+abbrev pub listed : ℕ → Bool
+listed stage =
+    eqb stage 0x00
+    || (eqb stage 0x01
+    || (eqb stage 0x41
+    || (eqb stage 0x03
+    || (eqb stage 0x07
+    || (eqb stage 0x0B
+    || (eqb stage 0x12
+    || (eqb stage 0x19
+    || (eqb stage 0x5A
+    || (eqb stage 0x96
+    || (eqb stage 0x5E
+    || eqb stage 0x9E))))))))))
+
+-- "WriteE2 is active", with its address or without.
+abbrev pub writes : ℕ → Bool
+writes stage = eqb stage 0x01 || eqb stage 0x41
+
+-- "1 to 16 latched bytes wait inside one block at 010h or above".
+abbrev pub batchFits : ℕ → ℕ → Bool
+batchFits next latched =
+    leb 1 latched && (leb latched 16 && (leb (batchStart next latched % 16 + latched) 16 && leb 0x10 (batchStart next latched)))
+
+-- Two tests agree.
+abbrev pub agree : Bool → Bool → Bool
+agree a b = cond a b (not b)
+
+-- "programming clocks left are .. above 0 exactly when 1 to 16 latched bytes wait .. and WriteE2 is active"; "the next address is below 200h".
+abbrev pub stageFormed : ℕ → ℕ → ℕ → ℕ → Bool
+stageFormed stage latched left next = listed stage && (agree (ltb 0 left) (writes stage && batchFits next latched) && ltb next 0x200)
+
+-- A flag's byte is 0 or 1.
+abbrev pub isFlag : ℕ → Bool
+isFlag x = leb x 1
+
+-- "bits that always read 0 are 0", of the bytes that a machine has as flags: key loaded, InterruptEn, InterruptRq, ErrorFlag and TRunning, by the index.
+abbrev pub byteFormed : ℕ → ℕ → Bool
+byteFormed k x =
+    cond (eqb k 2) (isFlag x)
+    (cond (eqb k 4) (ltb x 64)
+    (cond (eqb k 6) (ltb x 64)
+    (cond (eqb k 7) (eqb (bit x 7 + (bit x 2 + bit x 0)) 0)
+    (cond (eqb k 8) (isFlag x)
+    true))))
+
+abbrev pub bytesFormed : (ℕ → ℕ) → Bool
+bytesFormed byte = all (λ k. byteFormed k (byte k)) 9
+
+abbrev pub fieldsBy : Core → (ℕ → ℕ) → Bool
+fieldsBy k byte = stageFormed (k .stage) (k .latched) (k .left) (k .next) && bytesFormed byte
+
+unfoldable pub fieldsFormed : Chip → Bool
+fieldsFormed c = fieldsBy (core c) (at (c .state))
+
+-- Refusal 7 is given where this does not hold.
+unfoldable pub chipFormed : Chip → Bool
+chipFormed c = fieldsFormed c && wellFormed (view c)

@@ -1,0 +1,5 @@
+pub mod View
+pub mod Lent
+pub mod Formed
+pub mod Turns
+pub mod Meets

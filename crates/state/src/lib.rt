@@ -1,0 +1,119 @@
+// The chip as a program keeps it: arrays of numbers, which every function is lent where they lie and changes in place.
+//
+// Any memory is some chip, which refusal 7 judges. Names are the data sheet's. specs/View.antt says which machine the arrays are,
+// specs/Formed.antt when a chip is well formed, specs/Turns.antt what a function on some of the arrays promises.
+ghost use Rattle.state.specs.View.{withState, raised, marked, unmarked};
+ghost use Rattle.state.specs.Lent.{clocksState};
+ghost use Rattle.state.specs.Turns.{Turns, Counts, Holds};
+ghost use Rattle.machine.specs.Commands.{ended as Commands·ended};
+
+// A chip. Elements that no name below stands for are kept for later fields; a start leaves them 0.
+#[repr(C)]
+pub struct Chip {
+    pub clocks: [u32; 2],
+    pub numbers: [u16; 6],
+    pub state: [u8; 24],
+    pub registers: [u8; 32],
+    pub slots: [u8; 64],
+    pub latch: [u8; 16],
+    pub key: [u8; 6],
+    pub eeprom: [u8; 512],
+}
+
+// Elements of `clocks`: the timer's phase, and the programming clocks left.
+pub const PHASE: usize = 0;
+
+pub const LEFT: usize = 1;
+
+// Elements of `numbers`: the CRC register, and the address at which WriteE2's next byte goes.
+pub const CRC_REGISTER: usize = 0;
+
+pub const NEXT: usize = 1;
+
+// Elements of `state`. The first eight have bits that always read 0, which are judged together: Page, Control, whether a key is loaded, RxLastBits,
+// InterruptEn, ChannelRedundancy as the latest CalcCRC read it, InterruptRq and ErrorFlag.
+pub const PAGE: usize = 0;
+
+pub const CONTROL: usize = 1;
+
+pub const KEY_LOADED: usize = 2;
+
+pub const RX_LAST_BITS: usize = 3;
+
+pub const ENABLES: usize = 4;
+
+pub const CRC_MODE: usize = 5;
+
+pub const REQUESTS: usize = 6;
+
+pub const ERRORS: usize = 7;
+
+// TRunning, the prescaler kept while the timer runs, and how many bytes WriteE2 has latched.
+pub const RUNNING: usize = 8;
+
+pub const PRESCALER: usize = 9;
+
+pub const LATCHED: usize = 10;
+
+// The active command and how far it is; the FIFO's read and write positions; TimerValue; BitFraming.
+pub const STAGE: usize = 12;
+
+pub const READ: usize = 13;
+
+pub const WRITE: usize = 14;
+
+pub const VALUE: usize = 15;
+
+pub const BIT_FRAMING: usize = 16;
+
+// From the read to the write position, by wrapping subtract. That the two are bytes is known of parameters by value, and not of elements that are loaded.
+fn distance(read: u8, write: u8) -> u8
+    ensures { λ r. ⌜ Counts read write r ⌝ }
+{
+    std::num::wrapping_sub_u8(write, read)
+}
+
+// How many bytes the FIFO holds.
+pub fn held(state: &[u8; 24]) -> u8
+    ensures { λ r. ⌜ Holds (now (state .entry)) r ⌝ }
+{
+    distance(state[READ], state[WRITE])
+}
+
+// Requests of a mask's bits 5-0 are set in InterruptRq. The byte is stored only where there is one: a store delays the next load of a word that holds it.
+pub fn requested(state: &mut [u8; 24], mask: u8)
+    ensures { λ r. ⌜ Turns (raised mask) (withState (now (state .entry))) (withState (now (state .exit))) ⌝ }
+{
+    let new = mask % 64;
+    if new != 0 {
+        state[REQUESTS] = state[REQUESTS] | new;
+    }
+}
+
+// Flags of a mask are set in ErrorFlag, but for bits that always read 0.
+pub fn failed(state: &mut [u8; 24], mask: u8)
+    ensures { λ r. ⌜ Turns (marked mask) (withState (now (state .entry))) (withState (now (state .exit))) ⌝ }
+{
+    state[ERRORS] = state[ERRORS] | (mask & 0x7A);
+}
+
+// Flags of a mask are cleared in ErrorFlag. The byte is stored only where one is set.
+pub fn cleared(state: &mut [u8; 24], mask: u8)
+    ensures { λ r. ⌜ Turns (unmarked mask) (withState (now (state .entry))) (withState (now (state .exit))) ⌝ }
+{
+    if state[ERRORS] & mask != 0 {
+        state[ERRORS] = state[ERRORS] & !mask;
+    }
+}
+
+// The command ends: Idle, which programs nothing, and IdleIRq.
+pub fn ended(clocks: &mut [u32; 2], state: &mut [u8; 24])
+    ensures { λ r.
+        let before = clocksState (now (clocks .entry)) (now (state .entry)) in
+        let after = clocksState (now (clocks .exit)) (now (state .exit)) in
+        ⌜ Turns Commands·ended before after ⌝ }
+{
+    clocks[LEFT] = 0;
+    state[STAGE] = 0x00;
+    requested(state, 0x04);
+}

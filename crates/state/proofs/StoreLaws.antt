@@ -86,19 +86,23 @@ module _ (c : Chip) (formed : fieldsFormed c ≡ true) where
   pub byte-agrees : (k : ℕ) → k < 9 → byteFormed k (at (c .state) k) ≡ true
   byte-agrees k h = own-formed (at (c .state)) 9 k h bytes-agree
 
--- A store to any byte but the stage and the latched count: the machine of the bytes with one anew is f's (at a known index that is `refl`, or a law of that
--- byte alone), and the new byte is formed where all are.
-pub set-byte : (f : Machine → Machine) (l : List ℕ) (k x : ℕ) (c : Chip) → k < 24 → (eqb 10 k || eqb 12 k) ≡ false → Sizes (withState l c) →
-    viewOf (coreBy (at (c .clocks)) (at (c .numbers)) (put k x (at l))) c ≡ f (view (withState l c)) →
-    (bytesFormed (at l) ≡ true → byteFormed k x ≡ true) → Turned f (withState l c) (withState (set l k x) c)
-unfolding viewOf fieldsFormed
-set-byte f l k x c h other s is fits =
-    stored (withState (set l k x) c) refl refl (at-set l k x (omega (arith, s .state-count))) f (withState l c)
-    (sized-state s (set l k x) (length-set l k x ∙ s .state-count)) is
-    (λ formed. let bytes = bytes-agree (withState l c) formed in both (go (eqb 10 k) (eqb 12 k) other (stage-agrees (withState l c) formed)) (put-formed (at l) k x 9 (fits bytes) bytes))
+-- A store to any byte but the stage and the latched count keeps the fields' agreement, where the new byte is formed.
+pub keeps-byte : (c : Chip) (k x : ℕ) → (eqb 10 k || eqb 12 k) ≡ false → (bytesFormed (at (c .state)) ≡ true → byteFormed k x ≡ true) → fieldsFormed c ≡ true →
+    fieldsBy (coreBy (at (c .clocks)) (at (c .numbers)) (put k x (at (c .state)))) (put k x (at (c .state))) ≡ true
+keeps-byte c k x other fits formed =
+    let bytes = bytes-agree c formed in both (go (eqb 10 k) (eqb 12 k) other (stage-agrees c formed)) (put-formed (at (c .state)) k x 9 (fits bytes) bytes)
   where
-    go : (a b : Bool) → (a || b) ≡ false → stageFormed (at l 12) (at l 10) (at (c .clocks) 1) (at (c .numbers) 1) ≡ true →
-        stageFormed (cond b x (at l 12)) (cond a x (at l 10)) (at (c .clocks) 1) (at (c .numbers) 1) ≡ true
+    go : (a b : Bool) → (a || b) ≡ false → stageFormed (core c .stage) (core c .latched) (core c .left) (core c .next) ≡ true →
+        stageFormed (cond b x (core c .stage)) (cond a x (core c .latched)) (core c .left) (core c .next) ≡ true
     go false false e p = p
     go false true e p = absurd (true≢false e)
     go true b e p = absurd (true≢false e)
+
+-- Such a store: the machine of the bytes with one anew is f's (at a known index that is `refl`, or a law of that byte alone).
+pub set-byte : (f : Machine → Machine) (l : List ℕ) (k x : ℕ) (c : Chip) → k < 24 → (eqb 10 k || eqb 12 k) ≡ false → Sizes (withState l c) →
+    viewOf (coreBy (at (c .clocks)) (at (c .numbers)) (put k x (at l))) c ≡ f (view (withState l c)) →
+    (bytesFormed (at l) ≡ true → byteFormed k x ≡ true) → Turned f (withState l c) (withState (set l k x) c)
+unfolding viewOf
+set-byte f l k x c h other s is fits =
+    stored (withState (set l k x) c) refl refl (at-set l k x (omega (arith, s .state-count))) f (withState l c)
+    (sized-state s (set l k x) (length-set l k x ∙ s .state-count)) is (keeps-byte (withState l c) k x other fits)

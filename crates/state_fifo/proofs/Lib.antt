@@ -1,0 +1,2 @@
+pub mod AlertLaws
+pub mod FifoLaws

@@ -1,0 +1,67 @@
+-- `state_fifo::offered` meets its contract, by whether there is room. Assumes nothing.
+use denote.Ref.{now}
+use Prim.Native.Nat.{ℕ, _%_}
+use native.Mathlib.Omega.{arith}
+use mathlib.Core.Path.{refl, ap, sym, _∙_}
+use mathlib.Core.List.{List}
+use lib.Dec.{lit<}
+use lib.ListN.{set, length-set}
+use Rattle.machine.specs.State.{withHeld}
+use Rattle.machine.specs.Fifo.{offered}
+use Rattle.state.specs.View.{at, view, viewOf, withSlots}
+use Rattle.state.specs.Lent.{stateSlots}
+use Rattle.state.proofs.RingLaws.{count-length, ring-stored}
+use Rattle.state.proofs.TurnLaws.{becomes, sized-slots}
+use Rattle.state_fifo.proofs.FifoLaws.{offer-stored, offer-refused, stored-byte}
+use borrow.Author.Needs.{needs}
+use Rattle.state_fifo.proofs.offered.Statement.{statement}
+use Rattle.state_fifo.proofs.offered.Tie as tie
+
+held-requires : tie.Need-held-requires
+held-requires c κs = search needs
+
+failed-requires : tie.Need-failed-requires
+failed-requires c κs = search needs
+
+returns : tie.Need-returns
+unfolding viewOf
+returns c chip sizes =
+    let past = c .before .before .before in
+    let a = past .before .before .args in
+    let old = stateSlots (now (a .state)) (now (a .slots)) chip in
+    becomes (offered (a .byte)) (c .failed .ensures old sizes) (offer-refused (a .byte) (view old) (omega (arith, count-length (past .held .ensures) (now (a .slots)))))
+
+element-copy-out-write : tie.Need-element-copy-out-write
+element-copy-out-write c = search needs
+
+cast-slot : tie.Need-cast-slot
+cast-slot c = search needs
+
+element-write-slots : tie.Need-element-write-slots
+element-write-slots c = search needs
+
+wrapping-add-u8-requires : tie.Need-wrapping-add-u8-requires
+wrapping-add-u8-requires c κs = search needs
+
+element-write-state : tie.Need-element-write-state
+element-write-state c = search needs
+
+returns-2 : tie.Need-returns-2
+returns-2 c chip sizes =
+    let past = c .before .before .before in
+    let a = past .before .before .args in
+    stored-byte (now (a .state)) (now (a .slots)) (past .held .ensures) (omega arith) (a .byte) (c .wrapping-add-u8 .result) (c .wrapping-add-u8 .ensures) chip sizes
+
+pub offered-spec : {M : Type 1} → statement M
+offered-spec =
+    tie.close
+    (tie.spec
+    held-requires
+    failed-requires
+    returns
+    element-copy-out-write
+    cast-slot
+    element-write-slots
+    wrapping-add-u8-requires
+    element-write-state
+    returns-2)

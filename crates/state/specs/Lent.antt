@@ -32,6 +32,33 @@ numbersStateRegisters numbers state registers c = withNumbers numbers (withState
 abbrev pub numbersStateSlots : List ℕ → List ℕ → List ℕ → Chip → Chip
 numbersStateSlots numbers state slots c = withNumbers numbers (withState state (withSlots slots c))
 
+abbrev pub clocksStateSlotsKey : List ℕ → List ℕ → List ℕ → List ℕ → Chip → Chip
+clocksStateSlotsKey clocks state slots key c = withClocks clocks (withState state (withSlots slots (withKey key c)))
+
+abbrev pub clocksStateSlotsEeprom : List ℕ → List ℕ → List ℕ → List ℕ → Chip → Chip
+clocksStateSlotsEeprom clocks state slots eeprom c = withClocks clocks (withState state (withSlots slots (withEeprom eeprom c)))
+
+abbrev pub clocksStateSlotsKeyEeprom : List ℕ → List ℕ → List ℕ → List ℕ → List ℕ → Chip → Chip
+clocksStateSlotsKeyEeprom clocks state slots key eeprom c = withClocks clocks (withState state (withSlots slots (withKey key (withEeprom eeprom c))))
+
+abbrev pub clocksStateRegistersSlots : List ℕ → List ℕ → List ℕ → List ℕ → Chip → Chip
+clocksStateRegistersSlots clocks state registers slots c = withClocks clocks (withState state (withRegisters registers (withSlots slots c)))
+
+abbrev pub clocksStateRegistersSlotsEeprom : List ℕ → List ℕ → List ℕ → List ℕ → List ℕ → Chip → Chip
+clocksStateRegistersSlotsEeprom clocks state registers slots eeprom c = withClocks clocks (withState state (withRegisters registers (withSlots slots (withEeprom eeprom c))))
+
+abbrev pub clocksNumbersStateRegisters : List ℕ → List ℕ → List ℕ → List ℕ → Chip → Chip
+clocksNumbersStateRegisters clocks numbers state registers c = withClocks clocks (withNumbers numbers (withState state (withRegisters registers c)))
+
+abbrev pub clocksNumbersStateSlots : List ℕ → List ℕ → List ℕ → List ℕ → Chip → Chip
+clocksNumbersStateSlots clocks numbers state slots c = withClocks clocks (withNumbers numbers (withState state (withSlots slots c)))
+
+abbrev pub clocksNumbersStateSlotsLatch : List ℕ → List ℕ → List ℕ → List ℕ → List ℕ → Chip → Chip
+clocksNumbersStateSlotsLatch clocks numbers state slots latch c = withClocks clocks (withNumbers numbers (withState state (withSlots slots (withLatch latch c))))
+
+abbrev pub clocksNumbersStateRegistersSlots : List ℕ → List ℕ → List ℕ → List ℕ → List ℕ → Chip → Chip
+clocksNumbersStateRegistersSlots clocks numbers state registers slots c = withClocks clocks (withNumbers numbers (withState state (withRegisters registers (withSlots slots c))))
+
 -- All eight.
 abbrev pub assembled : List ℕ → List ℕ → List ℕ → List ℕ → List ℕ → List ℕ → List ℕ → List ℕ → Chip
 assembled clocks numbers state registers slots latch key eeprom =

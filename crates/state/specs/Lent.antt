@@ -56,6 +56,10 @@ clocksNumbersStateSlots clocks numbers state slots c = withClocks clocks (withNu
 abbrev pub clocksNumbersStateSlotsLatch : List ℕ → List ℕ → List ℕ → List ℕ → List ℕ → Chip → Chip
 clocksNumbersStateSlotsLatch clocks numbers state slots latch c = withClocks clocks (withNumbers numbers (withState state (withSlots slots (withLatch latch c))))
 
+abbrev pub clocksNumbersStateSlotsLatchEeprom : List ℕ → List ℕ → List ℕ → List ℕ → List ℕ → List ℕ → Chip → Chip
+clocksNumbersStateSlotsLatchEeprom clocks numbers state slots latch eeprom c =
+    withClocks clocks (withNumbers numbers (withState state (withSlots slots (withLatch latch (withEeprom eeprom c)))))
+
 abbrev pub clocksNumbersStateRegistersSlots : List ℕ → List ℕ → List ℕ → List ℕ → List ℕ → Chip → Chip
 clocksNumbersStateRegistersSlots clocks numbers state registers slots c = withClocks clocks (withNumbers numbers (withState state (withRegisters registers (withSlots slots c))))
 

@@ -1,0 +1,160 @@
+-- The clauses of refusal 7, as the code judges them, are the specification's.
+-- Assumes nothing.
+use Prim.Native.Nat.{ℕ, _+_, _%_, _<_}
+use native.Mathlib.Omega.{arith}
+use mathlib.Core.Path.{_≡_, refl, sym, ap, _∙_}
+use mathlib.Core.Bool.{Bool, true, false, cond, not, Bool·beq, and-true, and-false, and-comm, and-assoc, false≢true, _&&_}
+use mathlib.Core.List.{List}
+use lib.Dec.{ltb, leb, eqb}
+use lib.ListN.{length, take}
+use lib.Seq.{length-take-le}
+use borrow.Author.Tests.{lt-ltb, le-ltb, leb-true, eqb-true, eqb-false, le-leb}
+use Rattle.machine.specs.State.{Writing, addressing, ready, programming}
+use Rattle.machine.specs.Memory.{programmingClocks}
+use Rattle.machine.specs.WellFormed.{wellFormed, timerFormed, writingFormed, commandFormed, checksumFormed, bitsFormed, waits}
+use Rattle.machine.proofs.WellFormed.Parts.{by-cond, both, each}
+use Rattle.state.specs.View.{Core, core, view, viewOf, writingOf, commandOf, batchStart, heldOf, heldCount}
+use Rattle.state.specs.Formed.{listed, writes, batchFits, agree, isFlag, byteFormed, fieldsFormed, chipFormed}
+use Rattle.state.specs.declared.Chip.{Chip}
+use Rattle.state.proofs.RingLaws.{held-length}
+use Rattle.state.proofs.StageLaws.{Other, by-stage}
+use Rattle.state_formed.specs.Judged.{flagsFormed, timerFieldsFormed, programmingFormed, stageRoom, roomOf, Clear, Rests}
+use Rattle.state_formed.proofs.ByteLaws.{joined-if, waiting}
+
+-- `==` of two tests, as the code has it.
+pub same-tests : (a b : Bool) → Bool·beq a b ≡ agree a b
+same-tests true true = refl
+same-tests true false = refl
+same-tests false true = refl
+same-tests false false = refl
+
+-- Where the two agree: clocks are left only where some are due, and none where none are.
+some-due : (left : ℕ) (due : Bool) → agree (ltb 0 left) due ≡ true → eqb left 0 ≡ false → due ≡ true
+some-due left due agrees some = sym (ap (λ (t : Bool). agree t due) (lt-ltb 0 left (omega (arith, eqb-false left 0 some)))) ∙ agrees
+
+none-due : (left : ℕ) → agree (ltb 0 left) false ≡ true → true ≡ leb left programmingClocks
+none-due left agrees = go (eqb left 0) refl
+  where
+    go : (t : Bool) → eqb left 0 ≡ t → true ≡ leb left programmingClocks
+    go true e = ap (λ (n : ℕ). leb n programmingClocks) (sym (eqb-true left 0 e))
+    go false e = absurd (false≢true (some-due left false agrees e))
+
+module _ (k : Core) (latch : List ℕ) where
+  -- The machine's own clause then asks only how many: first of WriteE2, and then of every command.
+  module _ (sixteen : length latch ≡ 16) where
+    programming-judged : batchFits (k .next) (k .latched) ≡ true → eqb (k .left) 0 ≡ false →
+        writingFormed (programming (batchStart (k .next) (k .latched)) (take (k .latched) latch) (k .left)) ≡ leb (k .left) programmingClocks
+    programming-judged fits some =
+        let (one, h₁) = each (leb 1 (k .latched)) _ fits in
+        let (few, h₂) = each (leb (k .latched) 16) _ h₁ in
+        let (block, above) = each (leb (batchStart (k .next) (k .latched) % 16 + k .latched) 16) _ h₂ in
+        let count : length (take (k .latched) latch) ≡ k .latched = length-take-le (k .latched) latch (omega (arith, leb-true (k .latched) 16 few)) in
+        simp (
+          count,
+          one,
+          block,
+          above,
+          le-leb 1 (k .left) (omega (arith, eqb-false (k .left) 0 some)),
+          lt-ltb (batchStart (k .next) (k .latched)) 0x200 (omega arith),
+          and-true,
+        )
+
+    writing-judged : (resting : Writing) → writingFormed resting ≡ true → agree (ltb 0 (k .left)) (batchFits (k .next) (k .latched)) ≡ true →
+        writingFormed (writingOf k latch resting) ≡ leb (k .left) programmingClocks
+    writing-judged resting rests agrees =
+        by-cond (λ (w : Writing). writingFormed w ≡ leb (k .left) programmingClocks) (eqb (k .left) 0) resting _
+        (λ none. rests ∙ ap (λ (n : ℕ). leb n programmingClocks) (sym (eqb-true (k .left) 0 none)))
+        (λ some. programming-judged (some-due (k .left) _ agrees some) some)
+
+    command-judged : agree (ltb 0 (k .left)) (writes (k .stage) && batchFits (k .next) (k .latched)) ≡ true → commandFormed (commandOf k latch) ≡ leb (k .left) programmingClocks
+    command-judged =
+        by-stage
+        (λ s x. agree (ltb 0 (k .left)) (writes s && batchFits (k .next) (k .latched)) ≡ true → commandFormed x ≡ leb (k .left) programmingClocks) k latch
+        (writing-judged addressing refl) (writing-judged (ready (k .next % 0x200)) (lt-ltb (k .next % 0x200) 0x200 (omega arith)))
+        none none none none none none none none none (λ o. simp (o .n01, o .n41) none)
+      where
+        none : agree (ltb 0 (k .left)) false ≡ true → true ≡ leb (k .left) programmingClocks
+        none = none-due (k .left)
+
+  -- How many bytes may wait: in a stage that programs nothing, and in WriteE2 that programs.
+  module _ (n : ℕ) where
+    rests-with : eqb (k .left) 0 ≡ true → ltb n (stageRoom (k .stage)) ≡ (listed (k .stage) && (leb n 64 && leb n (waits (commandOf k latch))))
+    rests-with none =
+        by-stage (λ s x. ltb n (stageRoom s) ≡ (listed s && (leb n 64 && leb n (waits x)))) k latch
+        (simp none (waiting n 1 (omega arith))) (simp none (waiting n 0 (omega arith)))
+        (waiting n 2 (omega arith)) (waiting n 1 (omega arith)) (waiting n 1 (omega arith)) (waiting n 0 (omega arith)) (waiting n 11 (omega arith))
+        (waiting n 64 (omega arith)) (waiting n 64 (omega arith)) (waiting n 64 (omega arith)) (waiting n 64 (omega arith))
+        (λ o. go o (eqb (k .stage) 0x00) refl)
+      where
+        go : Other (k .stage) → (t : Bool) → eqb (k .stage) 0x00 ≡ t → ltb n (stageRoom (k .stage)) ≡ (listed (k .stage) && (leb n 64 && leb n 64))
+        go o true e = simp e (waiting n 64 (omega arith))
+        go o false e = simp (e, o .n01, o .n41, o .n03, o .n07, o .n0B, o .n12, o .n19, o .n5A, o .n96, o .n5E, o .n9E) (le-ltb n 0 (omega arith))
+
+    programs-with : eqb (k .left) 0 ≡ false → writes (k .stage) ≡ true → ltb n 65 ≡ (listed (k .stage) && (leb n 64 && leb n (waits (commandOf k latch))))
+    programs-with some =
+        by-stage (λ s x. writes s ≡ true → ltb n 65 ≡ (listed s && (leb n 64 && leb n (waits x)))) k latch
+        (λ w. simp some (waiting n 64 (omega arith))) (λ w. simp some (waiting n 64 (omega arith)))
+        (λ w. absurd (false≢true w)) (λ w. absurd (false≢true w)) (λ w. absurd (false≢true w)) (λ w. absurd (false≢true w)) (λ w. absurd (false≢true w))
+        (λ w. absurd (false≢true w)) (λ w. absurd (false≢true w)) (λ w. absurd (false≢true w)) (λ w. absurd (false≢true w))
+        (λ o w. absurd (false≢true (simp (o .n01, o .n41) at w)))
+
+    rooms : agree (ltb 0 (k .left)) (writes (k .stage) && batchFits (k .next) (k .latched)) ≡ true →
+        ltb n (roomOf (k .stage) (k .left)) ≡ (listed (k .stage) && (leb n 64 && leb n (waits (commandOf k latch))))
+    rooms agrees =
+        by-cond (λ (r : ℕ). ltb n r ≡ (listed (k .stage) && (leb n 64 && leb n (waits (commandOf k latch))))) (eqb (k .left) 0) (stageRoom (k .stage)) 65
+        rests-with (λ some. programs-with some (each (writes (k .stage)) _ (some-due (k .left) _ agrees some) .0))
+
+-- All clauses in the code's order.
+and-left-comm : (a b c : Bool) → (a && (b && c)) ≡ (b && (a && c))
+and-left-comm true b c = refl
+and-left-comm false b c = sym (and-false b)
+
+reordered : (l w f8 f7 f6 f4 f2 q t m p k z : Bool) →
+    (((l && w) && (f8 && (f7 && (f6 && (f4 && (f2 && true)))))) && (q && (t && (m && (p && (k && z))))))
+    ≡ ((f7 && (f6 && (f4 && f2))) && (z && ((f8 && t) && (k && ((w && m) && (l && (q && p)))))))
+reordered l w f8 f7 f6 f4 f2 q t m p k z = simp (and-true, and-assoc, and-comm, and-left-comm)
+
+in-order : (l w f8 f7 f6 f4 f2 q t m p k z : Bool) {rest : Bool} → ((w && m) && (l && (q && p))) ≡ rest →
+    (((l && w) && (f8 && (f7 && (f6 && (f4 && (f2 && true)))))) && (q && (t && (m && (p && (k && z)))))) ≡ ((f7 && (f6 && (f4 && f2))) && (z && ((f8 && t) && (k && rest))))
+in-order l w f8 f7 f6 f4 f2 q t m p k z e = reordered l w f8 f7 f6 f4 f2 q t m p k z ∙ ap (λ (b : Bool). (f7 && (f6 && (f4 && f2))) && (z && ((f8 && t) && (k && b)))) e
+
+pub clauses : (c : Chip) → length (c .latch) ≡ 16 →
+    let k = core c in
+    chipFormed c
+    ≡ (flagsFormed (k .keyLoaded) (k .enables) (k .requests) (k .errors)
+    && (bitsFormed (k .page) (k .control) (k .rxLastBits)
+    && (timerFieldsFormed (k .running) (k .value) (k .prescaler) (k .phase)
+    && (checksumFormed (record { register = k .crcRegister; mode = k .crcMode })
+    && (programmingFormed (k .stage) (k .latched) (k .left) (k .next)
+    && ltb (heldCount (k .read) (k .write)) (roomOf (k .stage) (k .left)))))))
+unfolding chipFormed fieldsFormed wellFormed viewOf
+clauses c sixteen =
+    let k = core c in
+    let m = view c in
+    let n = length (heldOf (k .read) (k .write) (c .slots)) in
+    let clocked = agree (ltb 0 (k .left)) (writes (k .stage) && batchFits (k .next) (k .latched)) in
+    let near = ltb (k .next) 0x200 in
+    in-order (listed (k .stage)) (clocked && near) (isFlag (k .running)) (byteFormed 7 (k .errors)) (byteFormed 6 (k .requests)) (byteFormed 4 (k .enables)) (byteFormed 2 (k .keyLoaded))
+    (leb n 64) (timerFormed (m .timer)) (commandFormed (m .command)) (leb n (waits (m .command))) (checksumFormed (m .checksum)) (bitsFormed (k .page) (k .control) (k .rxLastBits))
+    (joined-if _ (programmingFormed (k .stage) (k .latched) (k .left) (k .next)) _
+    (joined-if (commandFormed (m .command)) (clocked && near) (leb (k .left) programmingClocks) refl (λ h. command-judged k (c .latch) sixteen (each clocked near h .0))
+    ∙ and-comm (clocked && near) (leb (k .left) programmingClocks))
+    (λ h. sym (rooms k (c .latch) n (each clocked near (each (leb (k .left) programmingClocks) _ h .1) .0))
+    ∙ ap (λ (j : ℕ). ltb j (roomOf (k .stage) (k .left))) (held-length (c .slots) (k .read) (heldCount (k .read) (k .write)))))
+
+-- What the quick test asks is enough.
+pub quickly : (c : Chip) (n : ℕ) → length (c .latch) ≡ 16 →
+    let k = core c in
+    Clear (k .page) (k .control) (k .keyLoaded) (k .rxLastBits) (k .enables) (k .crcMode) (k .requests) (k .errors) → k .left ≡ 0 → k .next < 0x200 → Rests (k .stage) n →
+    n ≡ heldCount (k .read) (k .write) → timerFieldsFormed (k .running) (k .value) (k .prescaler) (k .phase) ≡ true → chipFormed c ≡ true
+quickly c n sixteen clear none near rests count timer =
+    let k = core c in
+    clauses c sixteen
+    ∙ both (clear .flags)
+    (both (clear .bits)
+    (both timer
+    (both (ap (λ (b : Bool). cond b (ltb (k .crcRegister) 0x100) true) (clear .wide))
+    (both
+    (ap (λ (j : ℕ). leb j programmingClocks && (agree (ltb 0 j) (writes (k .stage) && batchFits (k .next) (k .latched)) && ltb (k .next) 0x200)) none
+    ∙ both (ap (λ (b : Bool). not (b && batchFits (k .next) (k .latched))) (rests .other)) (lt-ltb (k .next) 0x200 near))
+    (ap (λ (j : ℕ). ltb (heldCount (k .read) (k .write)) (roomOf (k .stage) j)) none ∙ ap (λ (j : ℕ). ltb j (stageRoom (k .stage))) (sym count) ∙ rests .room)))))

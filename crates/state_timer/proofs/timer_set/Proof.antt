@@ -1,0 +1,59 @@
+-- `state_timer::timer_set` meets its contract: four stores at once. Assumes nothing.
+use borrow.Author.Needs.{needs}
+use borrow.Author.Tests.{le-leb}
+use denote.Ref.{now}
+use native.Mathlib.Omega.{arith}
+use mathlib.Core.Path.{refl, ap, _∙_}
+use lib.ListN.{set, length-set}
+use Rattle.machine.proofs.WellFormed.Parts.{both}
+use Rattle.state.specs.View.{at, viewOf}
+use Rattle.state.specs.Lent.{clocksState}
+use Rattle.state.proofs.StoreLaws.{put, at-set, at-set-two, stored, stage-agrees, bytes-agree, put-formed}
+use Rattle.state.proofs.TurnLaws.{sized-clocks, sized-state}
+use Rattle.state_timer.proofs.timer_set.Statement.{statement}
+use Rattle.state_timer.proofs.timer_set.Tie as tie
+
+element-write-clocks : tie.Need-element-write-clocks
+element-write-clocks c = search needs
+
+element-write-state : tie.Need-element-write-state
+element-write-state c = search needs
+
+element-write-state-2 : tie.Need-element-write-state-2
+element-write-state-2 c = search needs
+
+element-write-state-3 : tie.Need-element-write-state-3
+element-write-state-3 c = search needs
+
+returns : tie.Need-returns
+unfolding viewOf
+returns c flag chip sizes =
+    let a = c .args in
+    let running = a .running in
+    let value = a .value in
+    let prescaler = a .prescaler in
+    let clocks = now (a .clocks) in
+    let bytes = now (a .state) in
+    let old = clocksState clocks bytes chip in
+    let set-clocks = set clocks 0 0 in
+    let two = set (set bytes 8 running) 9 prescaler in
+    let all-set = set two 15 value in
+    let whole = sizes .state-count in
+    stored (clocksState set-clocks all-set chip) (at-set clocks 0 0 (omega (arith, sizes .clock-count))) refl
+    (at-set two 15 value (simp length-set (omega arith)) ∙ ap (put 15 value) (at-set-two bytes 8 running 9 prescaler (omega arith) (omega arith)))
+    _ old
+    (sized-clocks (sized-state sizes all-set (simp length-set whole)) set-clocks (simp length-set (sizes .clock-count)))
+    refl
+    (λ formed. both (stage-agrees old formed)
+    (put-formed (put 9 prescaler (put 8 running (at bytes))) 15 value 9 refl
+    (put-formed (put 8 running (at bytes)) 9 prescaler 9 refl (put-formed (at bytes) 8 running 9 (le-leb running 1 (omega arith)) (bytes-agree old formed)))))
+
+pub timer-set-spec : {M : Type 1} → statement M
+timer-set-spec =
+    tie.close
+    (tie.spec
+    element-write-clocks
+    element-write-state
+    element-write-state-2
+    element-write-state-3
+    returns)

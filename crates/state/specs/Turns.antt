@@ -32,6 +32,10 @@ pub record Turned (f : Machine → Machine) (before after : Chip) : Type 0 where
 abbrev pub Turns : (Machine → Machine) → (Chip → Chip) → (Chip → Chip) → Type 0
 Turns f before after = (c : Chip) → Sizes (before c) → Turned f (before c) (after c)
 
+-- The same of a function that is lent all eight arrays.
+abbrev pub TurnsAll : (Machine → Machine) → Chip → Chip → Type 0
+TurnsAll f before after = Sizes before → Turned f before after
+
 -- A function that reads: its answer is what a definition gives of the machine.
 abbrev pub Reads : {A : Type 0} → (Machine → A) → (Chip → Chip) → A → Type 0
 Reads f lent r = (c : Chip) → r ≡ f (view (lent c))

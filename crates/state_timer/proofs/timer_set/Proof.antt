@@ -28,21 +28,19 @@ element-write-state-3 c = search needs
 returns : tie.Need-returns
 unfolding viewOf
 returns c flag chip sizes =
-    let a = c .args in
-    let running = a .running in
-    let value = a .value in
-    let prescaler = a .prescaler in
-    let clocks = now (a .clocks) in
-    let bytes = now (a .state) in
+    let clocks = now (c .args .clocks) in
+    let bytes = now (c .args .state) in
+    let running = c .args .running in
+    let value = c .args .value in
+    let prescaler = c .args .prescaler in
     let old = clocksState clocks bytes chip in
-    let set-clocks = set clocks 0 0 in
+    let new-clocks = set clocks 0 0 in
     let two = set (set bytes 8 running) 9 prescaler in
-    let all-set = set two 15 value in
+    let new-bytes = set two 15 value in
     let whole = sizes .state-count in
-    stored (clocksState set-clocks all-set chip) (at-set clocks 0 0 (omega (arith, sizes .clock-count))) refl
-    (at-set two 15 value (simp length-set (omega arith)) ∙ ap (put 15 value) (at-set-two bytes 8 running 9 prescaler (omega arith) (omega arith)))
-    _ old
-    (sized-clocks (sized-state sizes all-set (simp length-set whole)) set-clocks (simp length-set (sizes .clock-count)))
+    stored (clocksState new-clocks new-bytes chip) (at-set clocks 0 0 (omega (arith, sizes .clock-count))) refl
+    (at-set two 15 value (simp length-set (omega arith)) ∙ ap (put 15 value) (at-set-two bytes 8 running 9 prescaler (omega arith) (omega arith))) _ old
+    (sized-clocks (sized-state sizes new-bytes (simp length-set whole)) new-clocks (simp length-set (sizes .clock-count)))
     refl
     (λ formed. both (stage-agrees old formed)
     (put-formed (put 9 prescaler (put 8 running (at bytes))) 15 value 9 refl

@@ -48,8 +48,8 @@ stops j =
     (j .if1 .came)
 
 -- A timer that is loaded by that test is started.
-by-test : {old next : Chip} (t : Bool) → let m = view old in
-    (eqb (TimerReload m) 0 || ltb 21 (TPreScaler m)) ≡ t → Turned (withTimer (cond t (stoppedAt 0) (runningAt (TimerReload m) (TPreScaler m) 0))) old next → Turned timerStarted old next
+by-test : {old next : Chip} (t : Bool) → let m = view old in (eqb (TimerReload m) 0 || ltb 21 (TPreScaler m)) ≡ t →
+    Turned (withTimer (cond t (stoppedAt 0) (runningAt (TimerReload m) (TPreScaler m) 0))) old next → Turned timerStarted old next
 by-test {old} t is turn =
     let m = view old in becomes timerStarted turn (ap (λ (b : Bool). withTimer (cond b (stoppedAt 0) (runningAt (TimerReload m) (TPreScaler m) 0)) m) (sym is))
 

@@ -1,0 +1,4 @@
+pub mod Arrays
+pub mod Beside
+pub mod InPlace
+pub mod TypeLaws

@@ -1,0 +1,54 @@
+-- The chip that a start leaves, and that an image's bytes are bytes.
+-- Assumes nothing.
+use Prim.Native.Nat.{ℕ, suc}
+use mathlib.Core.Path.{_≡_, refl, ap, _∙_}
+use mathlib.Core.List.{List, [], _∷_}
+use lib.ListN.{length, getD, set, replicate}
+use mir.Syntax.{w8}
+use mir.Val.{Fits}
+use Rattle.bits.specs.Bits.{Bytes}
+use Rattle.machine.specs.Memory.{bytesFrom, overRegisters}
+use Rattle.machine.specs.Refusals.{start}
+use Rattle.machine.specs.Events.{started}
+use Rattle.machine.proofs.WellFormed.Memory.{over-length}
+use Rattle.state.specs.View.{view, viewOf, heldFrom}
+use Rattle.state.specs.Lent.{assembled}
+use Rattle.state.specs.Formed.{fieldsFormed}
+use Rattle.state.specs.declared.Chip.{Chip}
+use Rattle.state.proofs.MeetLaws.{Done}
+
+-- A slice of bytes.
+pub known-bytes : (xs : List ℕ) → ((i : ℕ) → Fits w8 (getD xs i 0)) → Bytes xs
+unfolding Bytes
+known-bytes [] k = tt
+known-bytes (x ∷ xs) k = (k 0 .fits, known-bytes xs (λ i. k (suc i)))
+
+-- Every element 0 but Page, ErrorFlag, the registers and the EEPROM.
+abbrev pub fresh : List ℕ → List ℕ → Chip
+fresh registers eeprom =
+    assembled (replicate 2 0) (replicate 6 0) (set (set (replicate 24 0) 0 0x80) 7 0x40) registers (replicate 64 0) (replicate 16 0) (replicate 6 0) eeprom
+
+-- The EEPROM is the image, and the registers are loaded from it: all that a start owes.
+pub fresh-done : (c : Chip) (registers eeprom image : List ℕ) → length image ≡ 512 → eeprom ≡ image → registers ≡ overRegisters 0 (replicate 32 0) (bytesFrom image 0x10 32) →
+    Done c (start image) (fresh registers eeprom) 0 []
+unfolding viewOf heldFrom fieldsFormed started
+fresh-done c registers eeprom image whole stored loaded =
+    record {
+      answered = refl;
+      turned =
+          ap (λ (l : List ℕ). view (fresh l eeprom)) loaded
+          ∙ ap (λ (l : List ℕ). view (fresh (overRegisters 0 (replicate 32 0) (bytesFrom image 0x10 32)) l)) stored;
+      lent = refl;
+      fields = refl;
+      sizes =
+          record {
+            clock-count = refl;
+            number-count = refl;
+            state-count = refl;
+            register-count = ap length loaded ∙ over-length 0 (replicate 32 0) (bytesFrom image 0x10 32);
+            slot-count = refl;
+            latch-count = refl;
+            key-count = refl;
+            eeprom-count = ap length stored ∙ whole;
+          };
+    }

@@ -37,9 +37,9 @@ pub fn load_config(
 )
     ensures { λ r.
         let before = clocksStateRegistersSlotsEeprom (now (clocks .entry)) (now (state .entry)) (now (registers .entry)) (now (slots .entry))
-            (now (eeprom .entry)) in
+        (now (eeprom .entry)) in
         let after = clocksStateRegistersSlotsEeprom (now (clocks .exit)) (now (state .exit)) (now (registers .exit)) (now (slots .entry))
-            (now (eeprom .entry)) in
+        (now (eeprom .entry)) in
         ⌜ Turns (steppedAs LoadConfig) before after ⌝ }
 {
     if held(state) < 2 {

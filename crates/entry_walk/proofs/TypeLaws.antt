@@ -93,9 +93,3 @@ Typed-chip c = (vs : List Val) × Is T.the-row c vs
 
 pub whole-lent : (c : Chip) → Typed-chip c → Whole c
 whole-lent c (vs, is) = whole-chip c (LL.owed T.the-type T′.the-laws c vs is)
-
--- A slice of bytes.
-pub known-bytes : (xs : List ℕ) → ((i : ℕ) → Fits w8 (getD xs i 0)) → Bytes xs
-unfolding Bytes
-known-bytes [] k = tt
-known-bytes (x ∷ xs) k = (k 0 .fits, known-bytes xs (λ i. k (suc i)))

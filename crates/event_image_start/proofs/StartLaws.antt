@@ -17,12 +17,6 @@ use Rattle.state.specs.Formed.{fieldsFormed}
 use Rattle.state.specs.declared.Chip.{Chip}
 use Rattle.state.proofs.MeetLaws.{Done}
 
--- A slice of bytes.
-pub known-bytes : (xs : List ℕ) → ((i : ℕ) → Fits w8 (getD xs i 0)) → Bytes xs
-unfolding Bytes
-known-bytes [] k = tt
-known-bytes (x ∷ xs) k = (k 0 .fits, known-bytes xs (λ i. k (suc i)))
-
 -- Every element 0 but Page, ErrorFlag, the registers and the EEPROM.
 abbrev pub fresh : List ℕ → List ℕ → Chip
 fresh registers eeprom =

@@ -39,7 +39,7 @@ and-bit x m k =
     ∙ digits (λ a b. eqb (bitAnd a b) 1 ≡ (eqb b 1 && eqb a 1)) refl refl refl refl (bit x k) (bit m k) (digit x k) (digit m k)
 
 -- Bits 5-0 of a byte are those of its remainder; the bits of ErrorFlag's flags stay under their mask; every bit is turned by the complement.
-low-bits : (v : ℕ) → v < 256 → (k : ℕ) → k < 6 → bitSet (v % 64) k ≡ bitSet v k
+pub low-bits : (v : ℕ) → v < 256 → (k : ℕ) → k < 6 → bitSet (v % 64) k ≡ bitSet v k
 low-bits v h k l =
     ap (λ (n : ℕ). eqb n 1) (agree (λ j. bit (v % 64) j) (λ j. bit v j) 6 (each (λ w. all (λ j. eqb (bit (w % 64) j) (bit w j)) 6) 256 tt v h) k l)
 

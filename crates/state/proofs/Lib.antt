@@ -4,3 +4,4 @@ pub mod FlagLaws
 pub mod RingLaws
 pub mod StageLaws
 pub mod MeetLaws
+pub mod ByteLaws

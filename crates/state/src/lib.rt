@@ -80,13 +80,14 @@ pub fn held(state: &[u8; 24]) -> u8
     distance(state[READ], state[WRITE])
 }
 
-// Requests of a mask's bits 5-0 are set in InterruptRq. The byte is stored only where there is one: a store delays the next load of a word that holds it.
+// Requests of a mask's bits 5-0 are set in InterruptRq. The byte is stored only where one is new: a store delays the next load of a word that holds it.
 pub fn requested(state: &mut [u8; 24], mask: u8)
     ensures { λ r. ⌜ Turns (raised mask) (withState (now (state .entry))) (withState (now (state .exit))) ⌝ }
 {
-    let new = mask % 64;
-    if new != 0 {
-        state[REQUESTS] = state[REQUESTS] | new;
+    let requests = state[REQUESTS];
+    let next = requests | mask % 64;
+    if next != requests {
+        state[REQUESTS] = next;
     }
 }
 

@@ -29,13 +29,13 @@ begun-requires c κs = search needs
 returns-2 : tie.Need-returns-2
 returns-2 c chip sizes =
     let clears = c .before .before .before .before in
-    let tested = clears .before in
-    let past = tested .before .before in
+    let test = clears .before .before in
+    let past = test .before in
     let a = past .before .before .before .args in
     let old = clocksNumbersStateRegisters (now (a .clocks)) (now (a .numbers)) (now (a .state)) (now (a .registers)) chip in
     let first = clears .cleared .ensures old sizes in
     becomes (commandWritten (a .v)) (then first (c .begun .ensures (withState (clears .cleared .last .0) old) (first .sizes)))
-    (write-starts (a .v) (view old) (sym (past .programs .ensures old) ∙ tested .before .if1 .left))
+    (write-starts (a .v) (view old) (sym (past .programs .ensures old) ∙ test .if1 .left))
 
 pub command-written-spec : {M : Type 1} → statement M
 command-written-spec =

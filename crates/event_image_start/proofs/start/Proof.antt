@@ -16,7 +16,8 @@ use Rattle.state.specs.declared.Chip.{Chip}
 use Rattle.state.proofs.MeetLaws.{refused, accepted-as, start-refusal}
 use Rattle.register_load.specs.Wrapped.{wrappedFrom}
 use Rattle.register_load.proofs.LoadLaws.{unwrapped}
-use Rattle.event_image_start.proofs.StartLaws.{known-bytes, fresh, fresh-done}
+use Rattle.state.proofs.ByteLaws.{known-bytes}
+use Rattle.event_image_start.proofs.StartLaws.{fresh, fresh-done}
 use Rattle.event_image_start.proofs.start.Statement.{statement}
 use Rattle.event_image_start.proofs.start.Tie as tie
 

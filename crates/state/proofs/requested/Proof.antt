@@ -1,10 +1,9 @@
 -- `state::requested` meets its contract, by whether a request is new. Assumes nothing.
 use borrow.Author.Needs.{needs}
 use denote.Ref.{now}
-use Prim.Native.Nat.{ℕ, _%_, _<_}
+use Prim.Native.Nat.{ℕ}
 use native.Mathlib.Omega.{arith}
-use mathlib.Core.Path.{_≡_, refl, sym, ap, _∙_}
-use lib.Bits.{bitOr, or-zero-r}
+use mathlib.Core.Path.{refl, sym, ap, _∙_}
 use lib.Dec.{lit<}
 use Rattle.machine.specs.State.{withRequests}
 use Rattle.state.specs.View.{at, view, viewOf, withState, raised, interruptsOf}
@@ -14,8 +13,8 @@ use Rattle.state.proofs.TurnLaws.{stays, becomes}
 use Rattle.state.proofs.requested.Statement.{statement}
 use Rattle.state.proofs.requested.Tie as tie
 
-element-copy-out-state : tie.Need-element-copy-out-state
-element-copy-out-state c = search needs
+element-copy-out-requests : tie.Need-element-copy-out-requests
+element-copy-out-requests c = search needs
 
 element-write-state : tie.Need-element-write-state
 element-write-state c = search needs
@@ -31,12 +30,11 @@ returns c chip sizes =
 returns-2 : tie.Need-returns-2
 unfolding viewOf
 returns-2 c chip sizes =
-    let a = c .before .args in
+    let a = c .before .before .args in
     let l = now (a .state) in
-    let none : a .mask % 64 ≡ 0 = omega (arith, c .if1 .left) in
     becomes (raised (a .mask)) (stays (withState l chip) sizes)
-    (ap (λ (n : ℕ). withRequests (interruptsOf n) (view (withState l chip))) (sym (or-zero-r (at l 6)) ∙ ap (bitOr (at l 6)) (sym none))
+    (ap (λ (n : ℕ). withRequests (interruptsOf n) (view (withState l chip))) (sym (c .if1 .left))
     ∙ requests-raised (at l 6) (a .mask) (view (withState l chip)) (omega arith) refl)
 
 pub requested-spec : {M : Type 1} → statement M
-requested-spec = tie.close (tie.spec element-copy-out-state element-write-state returns returns-2)
+requested-spec = tie.close (tie.spec element-copy-out-requests element-write-state returns returns-2)

@@ -1,0 +1,60 @@
+// What the active command does with waiting bytes, by its stage.
+ghost use Rattle.machine.specs.Commands.{settled};
+ghost use Rattle.state.specs.Lent.{assembled};
+ghost use Rattle.state.specs.Turns.{TurnsAll};
+use command_calc_crc::calc_crc;
+use command_load_config::load_config;
+use command_load_key::load_key;
+use command_load_key::load_key_e2;
+use command_read_e2::read_e2;
+use command_write_e2::address_taken;
+use command_write_e2::bytes_latched;
+use state::LEFT;
+use state::STAGE;
+use state::held;
+
+// All that it does at once: WriteE2 takes its address and then latches bytes, every other command needs one step. Idle and the commands that send or receive
+// take no waiting byte here, and neither does a WriteE2 that programs.
+pub fn worked(
+    clocks: &mut [u32; 2],
+    numbers: &mut [u16; 6],
+    state: &mut [u8; 24],
+    registers: &mut [u8; 32],
+    slots: &mut [u8; 64],
+    latch: &mut [u8; 16],
+    key: &mut [u8; 6],
+    eeprom: &[u8; 512],
+)
+    ensures { λ r.
+        let before = assembled (now (clocks .entry)) (now (numbers .entry)) (now (state .entry)) (now (registers .entry))
+        (now (slots .entry)) (now (latch .entry)) (now (key .entry)) (now (eeprom .entry)) in
+        let after = assembled (now (clocks .exit)) (now (numbers .exit)) (now (state .exit)) (now (registers .exit))
+        (now (slots .exit)) (now (latch .exit)) (now (key .exit)) (now (eeprom .entry)) in
+        ⌜ TurnsAll settled before after ⌝ }
+{
+    let stage = state[STAGE];
+    match stage {
+        0x01 => {
+            if clocks[LEFT] != 0 {
+                return;
+            }
+            if held(state) < 2 {
+                return;
+            }
+            address_taken(clocks, numbers, state, slots);
+            bytes_latched(clocks, numbers, state, slots, latch);
+        }
+        0x41 => {
+            if clocks[LEFT] != 0 {
+                return;
+            }
+            bytes_latched(clocks, numbers, state, slots, latch);
+        }
+        0x03 => read_e2(clocks, state, slots, eeprom),
+        0x07 => load_config(clocks, state, registers, slots, eeprom),
+        0x0B => load_key_e2(clocks, state, slots, key, eeprom),
+        0x12 => calc_crc(numbers, state, slots),
+        0x19 => load_key(clocks, state, slots, key),
+        _ => {}
+    }
+}

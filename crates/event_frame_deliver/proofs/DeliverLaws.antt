@@ -1,0 +1,53 @@
+-- Laws of a delivery: which stages receive, what a frame does, by what the code judges of it, and that its bytes are bytes.
+-- Assumes nothing.
+use Prim.Native.Nat.{ℕ, suc}
+use mathlib.Core.Path.{_≡_, refl, ap, _∙_}
+use mathlib.Core.Bool.{Bool, true, false, or-true, or-false, _||_}
+use mathlib.Core.List.{List, [], _∷_}
+use lib.Dec.{eqb}
+use lib.ListN.{getD}
+use mir.Syntax.{w8}
+use mir.Val.{Fits}
+use Rattle.bits.specs.Bits.{Bytes}
+use Rattle.machine.specs.State.{Machine, withRxLastBits}
+use Rattle.machine.specs.Fifo.{offeredAll}
+use Rattle.machine.specs.Commands.{ended}
+use Rattle.machine.specs.Frames.{receiving, passed, crcFails, parityFails, withFrameErrors, rxStopped, received}
+use Rattle.machine.specs.Events.{delivered}
+use Rattle.state.specs.View.{Core, commandOf, raised, marked}
+use Rattle.state.proofs.StageLaws.{by-stage}
+use Rattle.state_fifo.specs.Alerts.{alertsOf, alertedFrom}
+use Rattle.state_fifo.proofs.AlertLaws.{alerted-from}
+use Rattle.event_frame_deliver.specs.Judged.{errorBits, frameErrors}
+
+-- Two stages receive.
+pub stage-receives : (k : Core) (latch : List ℕ) → (eqb (k .stage) 0x96 || eqb (k .stage) 0x9E) ≡ receiving (commandOf k latch)
+stage-receives k latch =
+    by-stage (λ s command. (eqb s 0x96 || eqb s 0x9E) ≡ receiving command) k latch
+    refl refl refl refl refl refl refl refl refl refl refl (λ o. simp (o .n96, o .n9E))
+
+-- The errors of a frame are set beside what they were.
+frame-marked : (crc parity : Bool) (m : Machine) → marked (errorBits crc parity) m ≡ withFrameErrors crc parity m
+frame-marked true true m = simp or-true
+frame-marked true false m = simp (or-true, or-false)
+frame-marked false true m = simp (or-true, or-false)
+frame-marked false false m = simp or-false
+
+-- A frame received, by what was judged of it before the timer was stopped.
+pub frame-received : (bytes parities : List ℕ) (lastBits : ℕ) (m : Machine) (errors : ℕ) (front : List ℕ) →
+    errors ≡ frameErrors bytes parities lastBits m → front ≡ passed m bytes lastBits →
+    ended (raised 0x08 (offeredAll front (withRxLastBits lastBits (marked errors (rxStopped m))))) ≡ received bytes parities lastBits m
+unfolding received
+frame-received bytes parities lastBits m errors front judged passes =
+    let crc = crcFails m bytes lastBits in
+    let parity = parityFails m bytes parities lastBits in
+    ap (λ (l : List ℕ). ended (raised 0x08 (offeredAll l (withRxLastBits lastBits (marked errors (rxStopped m)))))) passes
+    ∙ ap (λ (n : Machine). ended (raised 0x08 (offeredAll (passed m bytes lastBits) (withRxLastBits lastBits n))))
+    (ap (λ (n : ℕ). marked n (rxStopped m)) judged ∙ frame-marked crc parity (rxStopped m))
+
+-- A delivery, by the alerts before it.
+pub frame-delivered : (bytes parities : List ℕ) (lastBits : ℕ) (m : Machine) (before : ℕ) → before ≡ alertsOf m →
+    alertedFrom before (received bytes parities lastBits m) ≡ delivered bytes parities lastBits m
+unfolding delivered
+frame-delivered bytes parities lastBits m before is =
+    ap (λ (n : ℕ). alertedFrom n (received bytes parities lastBits m)) is ∙ alerted-from m (received bytes parities lastBits m)

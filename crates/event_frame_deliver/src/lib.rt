@@ -1,0 +1,133 @@
+// The delivery of a frame that the chip receives.
+//
+// The timer is stopped where TimerControl (2Bh) says so, the frame is judged, the bytes that pass are offered to the FIFO, RxIRq is set, and the command ends.
+ghost use mathlib.Core.List.{[]};
+ghost use Rattle.machine.specs.Fifo.{offeredAll};
+ghost use Rattle.machine.specs.Frames.{receiving, rxStopped, received as Frames·received};
+ghost use Rattle.machine.specs.Refusals.{deliver as Refusals·deliver};
+ghost use Rattle.state.specs.declared.Chip.{Chip};
+ghost use Rattle.state.specs.View.{withState, withRegisters};
+ghost use Rattle.state.specs.Lent.{stateSlots, clocksStateRegisters, clocksStateRegistersSlots, clocksNumbersStateRegistersSlots};
+ghost use Rattle.state.specs.Turns.{Turns, Reads};
+ghost use Rattle.state.specs.Meets.{Promises};
+ghost use Rattle.event_frame_deliver.specs.Judged.{frameErrors};
+use frame_checks::crc_fails;
+use frame_checks::parity_fails;
+use frame_checks::passed_length;
+use frame_formed::frame_formed;
+use state::RX_LAST_BITS;
+use state::STAGE;
+use state::ended;
+use state::failed;
+use state::requested;
+use state_fifo::alerted;
+use state_fifo::alerts_of;
+use state_fifo::flag;
+use state_fifo::offered;
+use state_formed::formed;
+use state_timer::timer_stopped;
+
+// The chip receives: Receive, or Transceive after its frame was taken.
+fn receives(state: &[u8; 24]) -> bool
+    ensures { λ r. ⌜ Reads (λ m. receiving (m .command)) (withState (now (state .entry))) r ⌝ }
+{
+    let stage = state[STAGE];
+    (stage == 0x96) | (stage == 0x9E)
+}
+
+// The timer is stopped where TimerControl (2Bh) has bit 2 or 3.
+fn rx_stopped(clocks: &mut [u32; 2], state: &mut [u8; 24], registers: &[u8; 32])
+    ensures { λ r.
+        let before = clocksStateRegisters (now (clocks .entry)) (now (state .entry)) (now (registers .entry)) in
+        let after = clocksStateRegisters (now (clocks .exit)) (now (state .exit)) (now (registers .entry)) in
+        ⌜ Turns rxStopped before after ⌝ }
+{
+    let control = registers[0x2B - 0x10];
+    if (control / 4 % 2 == 1) | (control / 8 % 2 == 1) {
+        timer_stopped(clocks, state);
+    }
+}
+
+// CRCErr and ParityErr, as bits 3 and 1 of ErrorFlag, by what is judged of the frame.
+fn frame_errors(registers: &[u8; 32], bytes: &[u8], parities: &[u8], last_bits: u8) -> u8
+    ensures { λ r.
+        let lent = withRegisters (now (registers .entry)) in
+        ⌜ Reads (frameErrors (now (bytes .entry)) (now (parities .entry)) «last_bits») lent r ⌝ }
+{
+    let crc = flag(crc_fails(registers, bytes, last_bits));
+    let parity = flag(parity_fails(registers, bytes, parities, last_bits));
+    0x08 * crc + 0x02 * parity
+}
+
+// Bytes are offered to the FIFO in order.
+fn offered_all(state: &mut [u8; 24], slots: &mut [u8; 64], bytes: &[u8])
+    ensures { λ r.
+        let before = stateSlots (now (state .entry)) (now (slots .entry)) in
+        let after = stateSlots (now (state .exit)) (now (slots .exit)) in
+        ⌜ Turns (offeredAll (now (bytes .entry))) before after ⌝ }
+{
+    let mut i: usize = 0;
+    while i < bytes.len() {
+        offered(state, slots, bytes[i]);
+        i += 1;
+    }
+}
+
+// The frame is received. CRCErr and ParityErr are set beside what they were.
+fn received(
+    clocks: &mut [u32; 2],
+    state: &mut [u8; 24],
+    registers: &[u8; 32],
+    slots: &mut [u8; 64],
+    bytes: &[u8],
+    parities: &[u8],
+    last_bits: u8,
+)
+    ensures { λ r.
+        let before = clocksStateRegistersSlots (now (clocks .entry)) (now (state .entry)) (now (registers .entry)) (now (slots .entry)) in
+        let after = clocksStateRegistersSlots (now (clocks .exit)) (now (state .exit)) (now (registers .entry)) (now (slots .exit)) in
+        ⌜ Turns (Frames·received (now (bytes .entry)) (now (parities .entry)) «last_bits») before after ⌝ }
+{
+    rx_stopped(clocks, state, registers);
+    failed(state, frame_errors(registers, bytes, parities, last_bits));
+    state[RX_LAST_BITS] = last_bits;
+    let count = passed_length(registers, bytes, last_bits);
+    offered_all(state, slots, &bytes[..count]);
+    requested(state, 0x08);
+    ended(clocks, state);
+}
+
+// A delivery: a frame's bytes, a parity value for each, and how many bits of the last byte count, 0 for all. It is refused with 7 where the chip is not well
+// formed, with 5 where the frame is not, and with 4 where the chip does not receive.
+pub fn deliver<'a, 'b, 'c>(
+    clocks: &'a mut [u32; 2],
+    numbers: &'a [u16; 6],
+    state: &'a mut [u8; 24],
+    registers: &'a [u8; 32],
+    slots: &'a mut [u8; 64],
+    bytes: &'b [u8],
+    parities: &'c [u8],
+    last_bits: u8,
+) -> u32
+    ensures { λ r.
+        let before = clocksNumbersStateRegistersSlots (now (clocks .entry)) (now (numbers .entry)) (now (state .entry))
+        (now (registers .entry)) (now (slots .entry)) in
+        let after = clocksNumbersStateRegistersSlots (now (clocks .exit)) (now (numbers .entry)) (now (state .exit))
+        (now (registers .entry)) (now (slots .exit)) in
+        let call = Refusals·deliver (now (bytes .entry)) (now (parities .entry)) «last_bits» in
+        ⌜ ((c : Chip) → Promises (before c) call (after c) r []) ⌝ }
+{
+    if !formed(clocks, numbers, state) {
+        return 7;
+    }
+    if !frame_formed(bytes, parities, last_bits) {
+        return 5;
+    }
+    if !receives(state) {
+        return 4;
+    }
+    let before = alerts_of(state, registers);
+    received(clocks, state, registers, slots, bytes, parities, last_bits);
+    alerted(state, registers, before);
+    0
+}

@@ -1,0 +1,61 @@
+-- Laws of what bytes of the state show: a source that two bytes of interrupts have in common, the byte that flags make, and a stage's code.
+-- Assumes nothing.
+use Prim.Native.Nat.{ℕ, _%_, _<_}
+use native.Mathlib.Omega.{arith}
+use mathlib.Core.Path.{_≡_, refl, sym, ap, _∙_}
+use mathlib.Core.Bool.{Bool, true, false, cond, not, and-comm, _&&_, _||_}
+use mathlib.Core.List.{List}
+use lib.Bits.{bitAnd, and-le-l}
+use lib.Dec.{eqb}
+use borrow.Author.Tests.{eqb-true}
+use Rattle.bits.specs.Bits.{bitSet}
+use Rattle.bits.proofs.Below.{agree}
+use Rattle.machine.specs.Commands.{codeOf}
+use Rattle.machine.specs.Registers.{flag, interruptByte, errorByte}
+use Rattle.state.specs.View.{Core, interruptsOf, errorsOf, commandOf}
+use Rattle.state.specs.Formed.{listed, byteFormed}
+use Rattle.state.proofs.FlagLaws.{and-bit}
+use Rattle.state.proofs.StageLaws.{Other, by-stage}
+use Rattle.event_host_read.specs.Shown.{anyCommon}
+
+-- A number of six bits is not 0 exactly where one of them is 1.
+abbrev anySet : ℕ → Bool
+anySet x = bitSet x 5 || bitSet x 4 || bitSet x 3 || bitSet x 2 || bitSet x 1 || bitSet x 0
+
+flag-set : (t : Bool) → eqb (flag t) 1 ≡ t
+flag-set true = refl
+flag-set false = refl
+
+any-set : (x : ℕ) → x < 64 → not (eqb x 0) ≡ anySet x
+any-set x h =
+    sym (flag-set (not (eqb x 0))) ∙ ap (λ (n : ℕ). eqb n 1) (agree (λ n. flag (not (eqb n 0))) (λ n. flag (anySet n)) 64 tt x h) ∙ flag-set (anySet x)
+
+-- Two bytes have a bit in common, where one of them has six.
+pub common-set : (x y : ℕ) → x < 64 → not (eqb (bitAnd x y) 0) ≡ anyCommon x y
+common-set x y h = any-set (bitAnd x y) (omega (arith, and-le-l x y)) ∙ simp (shared 5, shared 4, shared 3, shared 2, shared 1, shared 0)
+  where
+    shared : (k : ℕ) → bitSet (bitAnd x y) k ≡ (bitSet x k && bitSet y k)
+    shared k = and-bit x y k ∙ and-comm (bitSet y k) (bitSet x k)
+
+-- InterruptEn, InterruptRq and ErrorFlag are the bytes that their flags make.
+pub interrupt-byte : (x : ℕ) → x < 64 → x ≡ interruptByte (interruptsOf x)
+interrupt-byte x h = agree (λ n. n) (λ n. interruptByte (interruptsOf n)) 64 tt x h
+
+pub error-byte : (x : ℕ) → x < 256 → byteFormed 7 x ≡ true → x ≡ errorByte (errorsOf x)
+error-byte x h formed =
+    agree (λ n. n) (λ n. cond (byteFormed 7 n) (errorByte (errorsOf n)) n) 256 tt x h ∙ ap (λ (t : Bool). cond t (errorByte (errorsOf x)) x) formed
+
+-- The code of a listed stage's command is in bits 5-0.
+pub stage-code : (k : Core) (latch : List ℕ) → listed (k .stage) ≡ true → k .stage % 64 ≡ codeOf (commandOf k latch)
+stage-code k latch =
+    by-stage (λ s x. listed s ≡ true → s % 64 ≡ codeOf x) k latch
+    (λ l. refl) (λ l. refl) (λ l. refl) (λ l. refl) (λ l. refl) (λ l. refl) (λ l. refl) (λ l. refl) (λ l. refl) (λ l. refl) (λ l. refl) idle
+  where
+    left-of : (a b : Bool) → b ≡ false → (a || b) ≡ true → a ≡ true
+    left-of true b none h = refl
+    left-of false b none h = sym none ∙ h
+
+    idle : Other (k .stage) → listed (k .stage) ≡ true → k .stage % 64 ≡ 0
+    idle o l =
+        ap (λ (n : ℕ). n % 64)
+        (eqb-true (k .stage) 0x00 (left-of (eqb (k .stage) 0x00) _ (simp (o .n01, o .n41, o .n03, o .n07, o .n0B, o .n12, o .n19, o .n5A, o .n96, o .n5E, o .n9E)) l))

@@ -1,0 +1,85 @@
+-- `event_host_read::status::primary_status` meets its contract, flag by flag. Assumes nothing.
+use borrow.Author.Needs.{needs}
+use denote.Ref.{now}
+use Prim.Native.Nat.{_+_, _*_}
+use native.Mathlib.Omega.{arith}
+use mathlib.Core.Path.{_≡_, ap, _∙_}
+use lib.Dec.{lit<}
+use Rattle.machine.specs.Fifo.{loAlert, hiAlert}
+use Rattle.machine.specs.Registers.{flag, IRq, Err}
+use Rattle.state.specs.View.{view, viewOf}
+use Rattle.state.specs.Lent.{stateRegisters}
+use Rattle.state.proofs.MeetLaws.{own-fields-formed}
+use Rattle.state.proofs.StoreLaws.{byte-agrees}
+use Rattle.event_host_read.proofs.status.primary_status.Statement.{statement}
+use Rattle.event_host_read.proofs.status.primary_status.Tie as tie
+
+element-copy-out-irq : tie.Need-element-copy-out-irq
+element-copy-out-irq c = search needs
+
+element-copy-out-irq-2 : tie.Need-element-copy-out-irq-2
+element-copy-out-irq-2 c = search needs
+
+irq-requires : tie.Need-irq-requires
+irq-requires c κs = search needs
+
+flag-requires : tie.Need-flag-requires
+flag-requires c κs = search needs
+
+mul-result : tie.Need-mul-result
+mul-result c = search needs
+
+element-copy-out-err : tie.Need-element-copy-out-err
+element-copy-out-err c = search needs
+
+err-requires : tie.Need-err-requires
+err-requires c κs = search needs
+
+flag-requires-2 : tie.Need-flag-requires-2
+flag-requires-2 c κs = search needs
+
+mul-result-2 : tie.Need-mul-result-2
+mul-result-2 c = search needs
+
+add-result : tie.Need-add-result
+add-result c = search needs
+
+alerts-of-requires : tie.Need-alerts-of-requires
+alerts-of-requires c κs = search needs
+
+add-result-2 : tie.Need-add-result-2
+add-result-2 c = search needs
+
+returns : tie.Need-returns
+unfolding viewOf hiAlert loAlert
+returns c chip formed =
+    let call-flag2 = c .before in
+    let call-err = call-flag2 .before in
+    let call-flag = call-err .before .before in
+    let call-irq = call-flag .before in
+    let a = call-irq .before .before .before .args in
+    let here = stateRegisters (now (a .state)) (now (a .registers)) chip in
+    let fields = own-fields-formed here formed in
+    let m = view here in
+    let irq : call-flag .flag .result ≡ flag (IRq m) = call-flag .flag .ensures .0 ∙ ap flag (call-irq .irq .ensures (byte-agrees here fields 4 (lit< tt))) in
+    let err : call-flag2 .flag2 .result ≡ flag (Err m) = call-flag2 .flag2 .ensures .0 ∙ ap flag (call-err .err .ensures (byte-agrees here fields 7 (lit< tt))) in
+    let alerts : c .alerts-of .result ≡ 2 * flag (hiAlert m) + flag (loAlert m) = c .alerts-of .ensures .0 here in
+    omega arith
+
+pub primary-status-spec : {M : Type 1} → statement M
+primary-status-spec =
+    tie.close
+    (tie.spec
+    element-copy-out-irq
+    element-copy-out-irq-2
+    irq-requires
+    flag-requires
+    mul-result
+    element-copy-out-err
+    err-requires
+    flag-requires-2
+    mul-result-2
+    add-result
+    alerts-of-requires
+    add-result-2
+    returns)

@@ -1,0 +1,48 @@
+// PrimaryStatus and SecondaryStatus: the flags that they show.
+ghost use mathlib.Core.Path.{_≡_};
+ghost use mathlib.Core.Bool.{true};
+ghost use Rattle.machine.specs.Registers.{primaryStatus, secondaryStatus};
+ghost use Rattle.state.specs.Formed.{byteFormed};
+ghost use Rattle.state.specs.Lent.{clocksState, stateRegisters};
+ghost use Rattle.event_host_read.specs.Shown.{Shows, anyCommon, anyError};
+use command_begin::programs;
+use state::ENABLES;
+use state::ERRORS;
+use state::REQUESTS;
+use state::RUNNING;
+use state::RX_LAST_BITS;
+use state_fifo::alerts_of;
+use state_fifo::flag;
+
+// IRq: a request is also enabled.
+fn irq(enables: u8, requests: u8) -> bool
+    ensures { λ r. ⌜ (byteFormed 4 enables ≡ true → r ≡ anyCommon enables requests) ⌝ }
+{
+    enables & requests != 0
+}
+
+// Err: a flag of ErrorFlag is set.
+fn err(errors: u8) -> bool
+    ensures { λ r. ⌜ (byteFormed 7 errors ≡ true → r ≡ anyError errors) ⌝ }
+{
+    errors != 0
+}
+
+// PrimaryStatus (03h): IRq, Err, HiAlert and LoAlert in bits 3-0; ModemState reads 0.
+pub fn primary_status(state: &[u8; 24], registers: &[u8; 32]) -> u8
+    ensures { λ r. ⌜ Shows primaryStatus (stateRegisters (now (state .entry)) (now (registers .entry))) r ⌝ }
+{
+    8 * flag(irq(state[ENABLES], state[REQUESTS]))
+        + 4 * flag(err(state[ERRORS]))
+        + alerts_of(state, registers)
+}
+
+// SecondaryStatus (05h): TRunning, E2Ready and CRCReady in bits 7-5, RxLastBits in bits 2-0.
+pub fn secondary_status(clocks: &[u32; 2], state: &[u8; 24]) -> u8
+    ensures { λ r. ⌜ Shows secondaryStatus (clocksState (now (clocks .entry)) (now (state .entry))) r ⌝ }
+{
+    128 * flag(state[RUNNING] == 1)
+        + 64 * flag(!programs(clocks, state))
+        + 32
+        + state[RX_LAST_BITS] % 8
+}

@@ -1,0 +1,144 @@
+// A write to a register, by its address after mapping: to every one but Command (01h) and FIFOData (02h). The alerts are judged over it: only FlushFIFO and a
+// write to FIFOLevel (29h) can move them.
+ghost use mathlib.Core.Path.{_≡_};
+ghost use mathlib.Core.Bool.{true, cond};
+ghost use lib.Dec.{ltb};
+ghost use Rattle.machine.specs.Fifo.{flushed as Fifo·flushed, alerted as Fifo·alerted};
+ghost use Rattle.machine.specs.Timer.{timerStarted, timerStopped};
+ghost use Rattle.machine.specs.Registers.{interruptsWritten, registerWritten};
+ghost use Rattle.state.specs.View.{interruptsOf};
+ghost use Rattle.state.specs.Lent.{clocksState, stateRegisters, clocksStateRegisters};
+ghost use Rattle.state.specs.Turns.{Turns};
+ghost use Rattle.register_write.specs.Written.{otherWritten};
+use state::BIT_FRAMING;
+use state::CONTROL;
+use state::ENABLES;
+use state::PAGE;
+use state::REQUESTS;
+use state::cleared;
+use state_fifo::alerted;
+use state_fifo::alerts_of;
+use state_fifo::emptied;
+use state_timer::timer_started;
+use state_timer::timer_stopped;
+
+// InterruptEn and InterruptRq written: with bit 7 the marked bits are set, without it they are cleared.
+fn marked_bits(old: u8, v: u8) -> u8
+    ensures written { λ r. ⌜ interruptsOf r ≡ interruptsWritten v (interruptsOf old) ⌝ }
+    ensures below { λ r. ⌜ (ltb old 64 ≡ true → ltb r 64 ≡ true) ⌝ }
+{
+    let marks = v % 64;
+    if v / 128 % 2 == 1 {
+        old | marks
+    } else {
+        old & !marks
+    }
+}
+
+// FIFOLevel is written, and the alerts are judged by the new WaterLevel.
+fn level_written(state: &mut [u8; 24], registers: &mut [u8; 32], v: u8)
+    ensures { λ r.
+        let before = stateRegisters (now (state .entry)) (now (registers .entry)) in
+        let after = stateRegisters (now (state .exit)) (now (registers .exit)) in
+        ⌜ Turns (λ m. Fifo·alerted m (registerWritten 0x29 v m)) before after ⌝ }
+{
+    let before = alerts_of(state, registers);
+    registers[0x29 - 0x10] = v;
+    alerted(state, registers, before);
+}
+
+// FlushFIFO, where the flag is set: no byte is held, FIFOOvfl is cleared, and the alerts are judged.
+fn flushed(state: &mut [u8; 24], registers: &[u8; 32], flag: bool)
+    ensures { λ r.
+        let before = stateRegisters (now (state .entry)) (now (registers .entry)) in
+        let after = stateRegisters (now (state .exit)) (now (registers .entry)) in
+        ⌜ Turns (λ m. cond flag (Fifo·alerted m (Fifo·flushed m)) m) before after ⌝ }
+{
+    if flag {
+        let before = alerts_of(state, registers);
+        emptied(state);
+        cleared(state, 0x10);
+        alerted(state, registers, before);
+    }
+}
+
+// TStopNow, where the flag is set.
+fn stopped(clocks: &mut [u32; 2], state: &mut [u8; 24], flag: bool)
+    ensures { λ r.
+        let before = clocksState (now (clocks .entry)) (now (state .entry)) in
+        let after = clocksState (now (clocks .exit)) (now (state .exit)) in
+        ⌜ Turns (λ m. cond flag (timerStopped m) m) before after ⌝ }
+{
+    if flag {
+        timer_stopped(clocks, state);
+    }
+}
+
+// TStartNow, where the flag is set.
+fn started(clocks: &mut [u32; 2], state: &mut [u8; 24], registers: &[u8; 32], flag: bool)
+    ensures { λ r.
+        let before = clocksStateRegisters (now (clocks .entry)) (now (state .entry)) (now (registers .entry)) in
+        let after = clocksStateRegisters (now (clocks .exit)) (now (state .exit)) (now (registers .entry)) in
+        ⌜ Turns (λ m. cond flag (timerStarted m) m) before after ⌝ }
+{
+    if flag {
+        timer_started(clocks, state, registers);
+    }
+}
+
+// Control is written: it flushes, then stops, then starts, as its bits 0, 2 and 1 say, and bits 5 and 4 are stored.
+fn control_written(clocks: &mut [u32; 2], state: &mut [u8; 24], registers: &[u8; 32], v: u8)
+    ensures { λ r.
+        let before = clocksStateRegisters (now (clocks .entry)) (now (state .entry)) (now (registers .entry)) in
+        let after = clocksStateRegisters (now (clocks .exit)) (now (state .exit)) (now (registers .entry)) in
+        ⌜ Turns (λ m. Fifo·alerted m (registerWritten 0x09 v m)) before after ⌝ }
+{
+    flushed(state, registers, v % 2 == 1);
+    stopped(clocks, state, v / 4 % 2 == 1);
+    started(clocks, state, registers, v / 2 % 2 == 1);
+    state[CONTROL] = 32 * (v / 32 % 2) + 16 * (v / 16 % 2);
+}
+
+// Page is stored with its bits 7 and 2-0, at every eighth address; 10h-2Fh are stored whole. Nothing is done at Command and FIFOData, and at the registers that a
+// write does not change.
+pub fn register_written(
+    clocks: &mut [u32; 2],
+    state: &mut [u8; 24],
+    registers: &mut [u8; 32],
+    register: u8,
+    v: u8,
+)
+    ensures { λ r.
+        let before = clocksStateRegisters (now (clocks .entry)) (now (state .entry)) (now (registers .entry)) in
+        let after = clocksStateRegisters (now (clocks .exit)) (now (state .exit)) (now (registers .exit)) in
+        ⌜ Turns (λ m. Fifo·alerted m (otherWritten register v m)) before after ⌝ }
+{
+    if register % 8 == 0 {
+        state[PAGE] = 128 * (v / 128 % 2) + v % 8;
+        return;
+    }
+    if register >= 0x10 {
+        if register == 0x29 {
+            level_written(state, registers, v);
+            return;
+        }
+        if register >= 0x30 {
+            return;
+        }
+        registers[(register - 0x10) as usize] = v;
+        return;
+    }
+    match register {
+        0x06 => {
+            state[ENABLES] = marked_bits(state[ENABLES], v);
+        }
+        0x07 => {
+            state[REQUESTS] = marked_bits(state[REQUESTS], v);
+        }
+        0x09 => control_written(clocks, state, registers, v),
+        0x0F => {
+            state[BIT_FRAMING] = v;
+        }
+        _ => {}
+    }
+}

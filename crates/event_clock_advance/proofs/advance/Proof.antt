@@ -1,0 +1,65 @@
+-- `event_clock_advance::advance` meets its contract, by the refusals in their order. Assumes nothing.
+use denote.Ref.{now}
+use native.Mathlib.Omega.{arith}
+use mathlib.Core.Path.{_≡_, refl, sym, ap, _∙_}
+use mathlib.Core.Bool.{Bool, true}
+use mathlib.Core.List.{[]}
+use borrow.Author.Tests.{lt-ltb, le-ltb, not-true, not-false}
+use Rattle.machine.specs.Refusals.{advance, refuseIf, clockLimit}
+use Rattle.state.specs.View.{viewOf}
+use Rattle.state.specs.Formed.{chipFormed}
+use Rattle.state.specs.Lent.{assembled}
+use Rattle.state.specs.Meets.{Whole}
+use Rattle.state.specs.declared.Chip.{Chip}
+use Rattle.state.proofs.MeetLaws.{refused, malformed, advance-refusal, own-fields-formed, machine-formed, accepted-here}
+use borrow.Author.Needs.{needs}
+use Rattle.event_clock_advance.proofs.advance.Statement.{statement}
+use Rattle.event_clock_advance.proofs.advance.Tie as tie
+
+judged-requires : tie.Need-judged-requires
+judged-requires c κs = search needs
+
+abbrev at-entry : tie.Start → Chip
+at-entry s =
+    let a = s .args in assembled (now (a .clocks)) (now (a .numbers)) (now (a .state)) (now (a .registers)) (now (a .slots)) (now (a .latch)) (now (a .key)) (now (a .eeprom))
+
+-- Past the first test: where the function began, and that the chip is well formed.
+abbrev began : tie.Else1 → tie.Start
+began past = past .before .before .before .before .before
+
+well-formed : (past : tie.Else1) → Whole (at-entry (began past)) → chipFormed (at-entry (began past)) ≡ true
+well-formed past whole = sym (past .before .judged .ensures (at-entry (began past)) (whole .sizes)) ∙ not-false _ (past .if1 .left)
+
+returns : tie.Need-returns
+returns c whole =
+    let s = c .before .before .before .before .before in
+    let old = at-entry s in
+    malformed old (advance (s .args .by)) tt (sym (c .before .judged .ensures old (whole .sizes)) ∙ not-true _ (c .if1 .taken)) whole
+
+returns-2 : tie.Need-returns-2
+returns-2 c whole =
+    let s = began (c .before) in
+    refused (at-entry s) (advance (s .args .by)) 2
+    (advance-refusal (at-entry s) (well-formed (c .before) whole) (s .args .by) 3 (ap (λ (t : Bool). refuseIf t 3 0) (lt-ltb clockLimit (s .args .by) (omega (arith, c .if2 .taken)))) .0) whole
+
+advanced-requires : tie.Need-advanced-requires
+advanced-requires c κs = search needs
+
+returns-3 : tie.Need-returns-3
+unfolding viewOf
+returns-3 c whole =
+    let past = c .before .before .before .before .before .before in
+    let s = began (past .before) in
+    let a = s .args in
+    let old = at-entry s in
+    let formed = well-formed (past .before) whole in
+    let agrees = own-fields-formed old formed in
+    let after = c .advanced .last in
+    let next = assembled (after .0) (after .1 .0) (after .1 .1 .0) (now (a .registers)) (now (a .slots)) (after .1 .1 .1 .1 .1 .0) (now (a .key)) (after .1 .1 .1 .1 .1 .1 .0) in
+    let runs = c .advanced .ensures old (whole .sizes) agrees (machine-formed old formed whole) in
+    accepted-here old formed (advance (a .by)) next 0 [] tt whole
+    (advance-refusal old formed (a .by) 0 (ap (λ (t : Bool). refuseIf t 3 0) (le-ltb clockLimit (a .by) (omega (arith, past .if2 .left)))))
+    (record { answered = refl; turned = runs .machine; lent = refl; fields = runs .fields agrees; sizes = runs .sizes })
+
+pub advance-spec : {M : Type 1} → statement M
+advance-spec = tie.close (tie.spec judged-requires returns returns-2 advanced-requires returns-3)

@@ -1,0 +1,39 @@
+// The clock advance on the arrays.
+ghost use mathlib.Core.List.{[]};
+ghost use Rattle.machine.specs.Refusals.{advance as Refusals·advance};
+ghost use Rattle.state.specs.Lent.{assembled};
+ghost use Rattle.state.specs.Meets.{Promises};
+use state_formed::judged;
+
+mod clock;
+mod programming;
+mod timer;
+
+// An advance by clocks: each clocks the timer and the programming of WriteE2, and the alerts are judged over them all.
+pub fn advance<'a>(
+    clocks: &'a mut [u32; 2],
+    numbers: &'a mut [u16; 6],
+    state: &'a mut [u8; 24],
+    registers: &'a [u8; 32],
+    slots: &'a [u8; 64],
+    latch: &'a mut [u8; 16],
+    key: &'a [u8; 6],
+    eeprom: &'a mut [u8; 512],
+    by: u32,
+) -> u32
+    ensures { λ r.
+        let before = assembled (now (clocks .entry)) (now (numbers .entry)) (now (state .entry)) (now (registers .entry))
+        (now (slots .entry)) (now (latch .entry)) (now (key .entry)) (now (eeprom .entry)) in
+        let after = assembled (now (clocks .exit)) (now (numbers .exit)) (now (state .exit)) (now (registers .entry))
+        (now (slots .entry)) (now (latch .exit)) (now (key .entry)) (now (eeprom .exit)) in
+        ⌜ Promises before (Refusals·advance by) after r [] ⌝ }
+{
+    if !judged(clocks, numbers, state) {
+        return 7;
+    }
+    if by > 65_535 {
+        return 3;
+    }
+    clock::advanced(clocks, numbers, state, registers, slots, latch, eeprom, by);
+    0
+}

@@ -1,0 +1,98 @@
+// One clock of the programming that WriteE2 has started.
+ghost use Prim.Native.Nat.{_+_, _-_, _%_, _≤_};
+ghost use mathlib.Core.Bool.{true};
+ghost use mathlib.Core.Path.{_≡_};
+ghost use lib.ListN.{length, take};
+ghost use Rattle.machine.specs.Memory.{storedFrom};
+ghost use Rattle.state.specs.View.{at, batchStart};
+ghost use Rattle.state.specs.Formed.{batchFits};
+ghost use Rattle.state.specs.Lent.{clocksNumbersStateSlotsLatchEeprom};
+ghost use Rattle.event_clock_advance.specs.Clock.{ends, clocksCommand, TurnsFormed};
+use command_write_e2::bytes_latched;
+use state::LATCHED;
+use state::LEFT;
+use state::NEXT;
+use state::STAGE;
+use state::held;
+use state::requested;
+
+// Where the latched bytes go: they end where the next byte goes.
+fn batch_start(next: u16, latched: u8) -> u16
+    ensures { λ r. ⌜ r ≡ batchStart next latched ⌝ }
+{
+    ((next as u32 + 0x200 - latched as u32) % 0x200) as u16
+}
+
+// Stores the first latched bytes from an address on.
+fn store_batch(eeprom: &mut [u8; 512], latch: &[u8; 16], address: u16, count: u8)
+    ensures stores { λ _. ⌜ (length (now (eeprom .entry)) ≡ 512 → length (now (latch .entry)) ≡ 16 → count ≤ 16 → address + count ≤ 512 →
+        now (eeprom .exit) ≡ storedFrom (now (eeprom .entry)) address (take count (now (latch .entry)))) ⌝ }
+    ensures whole { λ _. ⌜ length (now (eeprom .exit)) ≡ length (now (eeprom .entry)) ⌝ }
+{
+    let start = address as usize;
+    let end = count as usize;
+    let mut i: usize = 0;
+    while i < end {
+        let to = (start + i) % 512;
+        let from = i % 16;
+        eeprom[to] = latch[from];
+        i += 1;
+    }
+}
+
+// A programming ends: its bytes are stored, and the next byte goes behind them. TxIRq is set where no byte is held; else WriteE2 goes on with those that are.
+fn programmed(
+    clocks: &mut [u32; 2],
+    numbers: &mut [u16; 6],
+    state: &mut [u8; 24],
+    slots: &[u8; 64],
+    latch: &mut [u8; 16],
+    eeprom: &mut [u8; 512],
+)
+    ensures { λ r.
+        let before = clocksNumbersStateSlotsLatchEeprom (now (clocks .entry)) (now (numbers .entry)) (now (state .entry))
+        (now (slots .entry)) (now (latch .entry)) (now (eeprom .entry)) in
+        let after = clocksNumbersStateSlotsLatchEeprom (now (clocks .exit)) (now (numbers .exit)) (now (state .exit))
+        (now (slots .entry)) (now (latch .exit)) (now (eeprom .exit)) in
+        ⌜ (batchFits (at (now (numbers .entry)) 1) (at (now (state .entry)) 10) ≡ true →
+        TurnsFormed (ends (at (now (numbers .entry)) 1) (at (now (state .entry)) 10) (now (latch .entry))) before after) ⌝ }
+{
+    let latched = state[LATCHED];
+    let waiting = held(state);
+    store_batch(eeprom, latch, batch_start(numbers[NEXT], latched), latched);
+    clocks[LEFT] = 0;
+    state[LATCHED] = 0;
+    state[STAGE] = 0x41;
+    if waiting == 0 {
+        requested(state, 0x10);
+        return;
+    }
+    bytes_latched(clocks, numbers, state, slots, latch);
+}
+
+// One clock of the active command: the clocks left of a programming fall by one, and the last one ends it.
+pub fn command_clocked(
+    clocks: &mut [u32; 2],
+    numbers: &mut [u16; 6],
+    state: &mut [u8; 24],
+    slots: &[u8; 64],
+    latch: &mut [u8; 16],
+    eeprom: &mut [u8; 512],
+)
+    ensures { λ r.
+        let before = clocksNumbersStateSlotsLatchEeprom (now (clocks .entry)) (now (numbers .entry)) (now (state .entry))
+        (now (slots .entry)) (now (latch .entry)) (now (eeprom .entry)) in
+        let after = clocksNumbersStateSlotsLatchEeprom (now (clocks .exit)) (now (numbers .exit)) (now (state .exit))
+        (now (slots .entry)) (now (latch .exit)) (now (eeprom .exit)) in
+        ⌜ TurnsFormed clocksCommand before after ⌝ }
+{
+    let left = clocks[LEFT];
+    if left == 0 {
+        return;
+    }
+    if left > 1 {
+        clocks[LEFT] = left - 1;
+        return;
+    }
+    programmed(clocks, numbers, state, slots, latch, eeprom);
+}

@@ -1,0 +1,74 @@
+// One clock of the timer.
+ghost use Prim.Native.Nat.{_%_, _^_, _<_, _≤_};
+ghost use mathlib.Core.Bool.{not, _&&_};
+ghost use mathlib.Core.Path.{_≡_};
+ghost use lib.Dec.{eqb};
+ghost use Rattle.bits.specs.Bits.{bitSet};
+ghost use Rattle.machine.specs.Timer.{timerStepped, timerClock};
+ghost use Rattle.state.specs.View.{at};
+ghost use Rattle.state.specs.Lent.{clocksStateRegisters};
+ghost use Rattle.state.specs.Turns.{Turns};
+use state::PHASE;
+use state::PRESCALER;
+use state::RUNNING;
+use state::VALUE;
+use state::requested;
+use state_timer::timer_stopped;
+
+// How many clocks make one timer step.
+fn period(prescaler: u8) -> u32
+    ensures is { λ r. ⌜ r ≡ 2 ^ (prescaler % 32) ⌝ }
+    ensures some { λ r. ⌜ 1 ≤ r ⌝ }
+{
+    1u32 << (prescaler % 32)
+}
+
+// A timer at its end restarts: TAutoRestart is set, and TimerReload is not 0.
+fn restarts(timer_clock: u8, reload: u8) -> bool
+    ensures { λ r. ⌜ r ≡ (bitSet «timer_clock» 5 && not (eqb reload 0)) ⌝ }
+{
+    (timer_clock / 32 % 2 == 1) & (reload != 0)
+}
+
+// One timer step of a timer that runs: the value falls, or at 1 TimerIRq is set and the timer stops, or restarts with TAutoRestart.
+fn timer_stepped(clocks: &mut [u32; 2], state: &mut [u8; 24], registers: &[u8; 32])
+    ensures { λ r.
+        let before = clocksStateRegisters (now (clocks .entry)) (now (state .entry)) (now (registers .entry)) in
+        let after = clocksStateRegisters (now (clocks .exit)) (now (state .exit)) (now (registers .entry)) in
+        ⌜ (at (now (state .entry)) 8 ≡ 1 → Turns timerStepped before after) ⌝ }
+{
+    let value = state[VALUE];
+    let reload = registers[0x2C - 0x10];
+    if 1 < value {
+        clocks[PHASE] = 0;
+        state[VALUE] = value - 1;
+        return;
+    }
+    if restarts(registers[0x2A - 0x10], reload) {
+        clocks[PHASE] = 0;
+        state[VALUE] = reload;
+        requested(state, 0x20);
+        return;
+    }
+    timer_stopped(clocks, state);
+    state[VALUE] = 0;
+    requested(state, 0x20);
+}
+
+// One clock; 2^prescaler clocks make one step.
+pub fn timer_clocked(clocks: &mut [u32; 2], state: &mut [u8; 24], registers: &[u8; 32])
+    ensures { λ r.
+        let before = clocksStateRegisters (now (clocks .entry)) (now (state .entry)) (now (registers .entry)) in
+        let after = clocksStateRegisters (now (clocks .exit)) (now (state .exit)) (now (registers .entry)) in
+        ⌜ (at (now (state .entry)) 9 < 32 → Turns timerClock before after) ⌝ }
+{
+    if state[RUNNING] != 1 {
+        return;
+    }
+    let phase = clocks[PHASE];
+    if phase < period(state[PRESCALER]) - 1 {
+        clocks[PHASE] = phase + 1;
+        return;
+    }
+    timer_stepped(clocks, state, registers);
+}

@@ -1,0 +1,4 @@
+pub mod FrontLaws
+pub mod CrcLaws
+pub mod FrameLaws
+pub mod SentLaws

@@ -1,6 +1,6 @@
 // The C interface (include/mfrc531.h): the six events on a chip that the caller lends, the profile check, and the choice for a safe start.
 //
-// An event lends the chip's arrays where they lie to the event on the parts, stores the next core, and answers the event's number.
+// An event lends the chip's arrays where they lie to the event on the arrays, and answers its number. Nothing is copied.
 ghost use mathlib.Core.Path.{_≡_};
 ghost use mathlib.Core.List.{[]};
 ghost use Rattle.profile.specs.Answer.{refusalAnswer};
@@ -8,29 +8,29 @@ ghost use Rattle.profile.specs.FixedBits.{fixedBits};
 ghost use Rattle.profile.specs.Check.{judged};
 ghost use Rattle.safe_start.specs.Choice.{chosen};
 ghost use Rattle.machine.specs.Refusals.{start, hostRead, hostWrite, advance, takeFrame, deliver};
-ghost use Rattle.chip.specs.Meets.{Meets};
+ghost use Rattle.state.specs.Meets.{Meets};
 ghost use Rattle.bench.specs.Numbers.{profileNumber, choiceNumber};
-use chip::Chip;
 use profile::Refusal;
 use profile::Verdict;
 use safe_start::Choice;
+use state::Chip;
 
 // A start from an EEPROM image, whatever the chip was.
 #[no_mangle]
 pub extern "C" fn mfrc531_start(chip: &mut Chip, image: &[u8]) -> u32
     ensures { λ r. ⌜ Meets (now (chip .entry)) (start (now (image .entry))) (now (chip .exit)) r [] ⌝ }
 {
-    let next = event_start::start(
-        chip.core,
-        &mut chip.slots,
+    event_image_start::start(
+        &mut chip.clocks,
+        &mut chip.numbers,
+        &mut chip.state,
         &mut chip.registers,
+        &mut chip.slots,
         &mut chip.latch,
         &mut chip.key,
         &mut chip.eeprom,
         image,
-    );
-    chip.core = next.core;
-    next.answer
+    )
 }
 
 // A host read of an address.
@@ -38,17 +38,14 @@ pub extern "C" fn mfrc531_start(chip: &mut Chip, image: &[u8]) -> u32
 pub extern "C" fn mfrc531_read(chip: &mut Chip, address: u8) -> u32
     ensures { λ r. ⌜ Meets (now (chip .entry)) (hostRead address) (now (chip .exit)) r [] ⌝ }
 {
-    let next = event_read::host_read(
-        chip.core,
-        &mut chip.slots,
-        &mut chip.registers,
-        &mut chip.latch,
-        &mut chip.key,
-        &mut chip.eeprom,
+    event_host_read::host_read(
+        &chip.clocks,
+        &chip.numbers,
+        &mut chip.state,
+        &chip.registers,
+        &chip.slots,
         address,
-    );
-    chip.core = next.core;
-    next.answer
+    )
 }
 
 // A host write of a byte to an address.
@@ -56,18 +53,18 @@ pub extern "C" fn mfrc531_read(chip: &mut Chip, address: u8) -> u32
 pub extern "C" fn mfrc531_write(chip: &mut Chip, address: u8, v: u8) -> u32
     ensures { λ r. ⌜ Meets (now (chip .entry)) (hostWrite address v) (now (chip .exit)) r [] ⌝ }
 {
-    let next = event_write::host_write(
-        chip.core,
-        &mut chip.slots,
+    event_host_write::host_write(
+        &mut chip.clocks,
+        &mut chip.numbers,
+        &mut chip.state,
         &mut chip.registers,
+        &mut chip.slots,
         &mut chip.latch,
         &mut chip.key,
-        &mut chip.eeprom,
+        &chip.eeprom,
         address,
         v,
-    );
-    chip.core = next.core;
-    next.answer
+    )
 }
 
 // An advance by clocks.
@@ -75,17 +72,17 @@ pub extern "C" fn mfrc531_write(chip: &mut Chip, address: u8, v: u8) -> u32
 pub extern "C" fn mfrc531_advance(chip: &mut Chip, clocks: u32) -> u32
     ensures { λ r. ⌜ Meets (now (chip .entry)) (advance clocks) (now (chip .exit)) r [] ⌝ }
 {
-    let next = event_advance::advance(
-        chip.core,
-        &mut chip.slots,
-        &mut chip.registers,
+    event_clock_advance::advance(
+        &mut chip.clocks,
+        &mut chip.numbers,
+        &mut chip.state,
+        &chip.registers,
+        &chip.slots,
         &mut chip.latch,
-        &mut chip.key,
+        &chip.key,
         &mut chip.eeprom,
         clocks,
-    );
-    chip.core = next.core;
-    next.answer
+    )
 }
 
 // A take of the frame that the chip sends, into a buffer.
@@ -93,17 +90,14 @@ pub extern "C" fn mfrc531_advance(chip: &mut Chip, clocks: u32) -> u32
 pub extern "C" fn mfrc531_take(chip: &mut Chip, buffer: &mut [u8]) -> u32
     ensures { λ r. ⌜ Meets (now (chip .entry)) (takeFrame (now (buffer .entry))) (now (chip .exit)) r (now (buffer .exit)) ⌝ }
 {
-    let next = event_take::take(
-        chip.core,
-        &mut chip.slots,
-        &mut chip.registers,
-        &mut chip.latch,
-        &mut chip.key,
-        &mut chip.eeprom,
+    event_frame_take::take(
+        &mut chip.clocks,
+        &chip.numbers,
+        &mut chip.state,
+        &chip.registers,
+        &chip.slots,
         buffer,
-    );
-    chip.core = next.core;
-    next.answer
+    )
 }
 
 // A delivery of a frame that the chip receives.
@@ -116,19 +110,16 @@ pub extern "C" fn mfrc531_deliver(
 ) -> u32
     ensures { λ r. ⌜ Meets (now (chip .entry)) (deliver (now (bytes .entry)) (now (parities .entry)) «last_bits») (now (chip .exit)) r [] ⌝ }
 {
-    let next = event_deliver::deliver(
-        chip.core,
+    event_frame_deliver::deliver(
+        &mut chip.clocks,
+        &chip.numbers,
+        &mut chip.state,
+        &chip.registers,
         &mut chip.slots,
-        &mut chip.registers,
-        &mut chip.latch,
-        &mut chip.key,
-        &mut chip.eeprom,
         bytes,
         parities,
         last_bits,
-    );
-    chip.core = next.core;
-    next.answer
+    )
 }
 
 // The number of a refusal by the profile check.

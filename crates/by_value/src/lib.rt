@@ -1,9 +1,9 @@
-// The six events by value: the chip is passed in, and handed back with the answer. Each copies the arrays into locals and lends those to
-// the event on the parts.
+// The six events by value: the chip is passed in, and handed back with the answer. Each copies the arrays into locals and lends those to the event on the
+// arrays.
 ghost use mathlib.Core.List.{[]};
 ghost use Rattle.machine.specs.Refusals.{start as Refusals·start, hostRead, hostWrite, advance as Refusals·advance, takeFrame, deliver as Refusals·deliver};
-ghost use Rattle.chip.specs.Meets.{Meets};
-use chip::Chip;
+ghost use Rattle.state.specs.Meets.{Meets};
+use state::Chip;
 
 // What an event by value gives back: the next chip, and the number answered.
 pub struct Outcome {
@@ -11,36 +11,42 @@ pub struct Outcome {
     pub answer: u32,
 }
 
-// A start from an EEPROM image.
+// A start from an EEPROM image, whatever the chip was.
 pub fn start(chip: Chip, image: &[u8]) -> Outcome
     ensures { λ r. ⌜ Meets chip (Refusals·start (now (image .entry))) (r .chip) (r .answer) [] ⌝ }
 {
-    let mut slots = chip.slots;
+    let mut clocks = chip.clocks;
+    let mut numbers = chip.numbers;
+    let mut state = chip.state;
     let mut registers = chip.registers;
+    let mut slots = chip.slots;
     let mut latch = chip.latch;
     let mut key = chip.key;
     let mut eeprom = chip.eeprom;
-    let started = event_start::start(
-        chip.core,
-        &mut slots,
+    let answer = event_image_start::start(
+        &mut clocks,
+        &mut numbers,
+        &mut state,
         &mut registers,
+        &mut slots,
         &mut latch,
         &mut key,
         &mut eeprom,
         image,
     );
-    let core = started.core;
     let next = Chip {
-        core: core,
-        slots: slots,
+        clocks: clocks,
+        numbers: numbers,
+        state: state,
         registers: registers,
+        slots: slots,
         latch: latch,
         key: key,
         eeprom: eeprom,
     };
     Outcome {
         chip: next,
-        answer: started.answer,
+        answer: answer,
     }
 }
 
@@ -48,32 +54,35 @@ pub fn start(chip: Chip, image: &[u8]) -> Outcome
 pub fn host_read(chip: Chip, address: u8) -> Outcome
     ensures { λ r. ⌜ Meets chip (hostRead address) (r .chip) (r .answer) [] ⌝ }
 {
-    let mut slots = chip.slots;
-    let mut registers = chip.registers;
-    let mut latch = chip.latch;
-    let mut key = chip.key;
-    let mut eeprom = chip.eeprom;
-    let read = event_read::host_read(
-        chip.core,
-        &mut slots,
-        &mut registers,
-        &mut latch,
-        &mut key,
-        &mut eeprom,
+    let clocks = chip.clocks;
+    let numbers = chip.numbers;
+    let mut state = chip.state;
+    let registers = chip.registers;
+    let slots = chip.slots;
+    let latch = chip.latch;
+    let key = chip.key;
+    let eeprom = chip.eeprom;
+    let answer = event_host_read::host_read(
+        &clocks,
+        &numbers,
+        &mut state,
+        &registers,
+        &slots,
         address,
     );
-    let core = read.core;
     let next = Chip {
-        core: core,
-        slots: slots,
+        clocks: clocks,
+        numbers: numbers,
+        state: state,
         registers: registers,
+        slots: slots,
         latch: latch,
         key: key,
         eeprom: eeprom,
     };
     Outcome {
         chip: next,
-        answer: read.answer,
+        answer: answer,
     }
 }
 
@@ -81,66 +90,78 @@ pub fn host_read(chip: Chip, address: u8) -> Outcome
 pub fn host_write(chip: Chip, address: u8, v: u8) -> Outcome
     ensures { λ r. ⌜ Meets chip (hostWrite address v) (r .chip) (r .answer) [] ⌝ }
 {
-    let mut slots = chip.slots;
+    let mut clocks = chip.clocks;
+    let mut numbers = chip.numbers;
+    let mut state = chip.state;
     let mut registers = chip.registers;
+    let mut slots = chip.slots;
     let mut latch = chip.latch;
     let mut key = chip.key;
-    let mut eeprom = chip.eeprom;
-    let written = event_write::host_write(
-        chip.core,
-        &mut slots,
+    let eeprom = chip.eeprom;
+    let answer = event_host_write::host_write(
+        &mut clocks,
+        &mut numbers,
+        &mut state,
         &mut registers,
+        &mut slots,
         &mut latch,
         &mut key,
-        &mut eeprom,
+        &eeprom,
         address,
         v,
     );
-    let core = written.core;
     let next = Chip {
-        core: core,
-        slots: slots,
+        clocks: clocks,
+        numbers: numbers,
+        state: state,
         registers: registers,
+        slots: slots,
         latch: latch,
         key: key,
         eeprom: eeprom,
     };
     Outcome {
         chip: next,
-        answer: written.answer,
+        answer: answer,
     }
 }
 
 // An advance by clocks.
-pub fn advance(chip: Chip, clocks: u32) -> Outcome
-    ensures { λ r. ⌜ Meets chip (Refusals·advance clocks) (r .chip) (r .answer) [] ⌝ }
+pub fn advance(chip: Chip, by: u32) -> Outcome
+    ensures { λ r. ⌜ Meets chip (Refusals·advance by) (r .chip) (r .answer) [] ⌝ }
 {
-    let mut slots = chip.slots;
-    let mut registers = chip.registers;
+    let mut clocks = chip.clocks;
+    let mut numbers = chip.numbers;
+    let mut state = chip.state;
+    let registers = chip.registers;
+    let slots = chip.slots;
     let mut latch = chip.latch;
-    let mut key = chip.key;
+    let key = chip.key;
     let mut eeprom = chip.eeprom;
-    let advanced = event_advance::advance(
-        chip.core,
-        &mut slots,
-        &mut registers,
+    let answer = event_clock_advance::advance(
+        &mut clocks,
+        &mut numbers,
+        &mut state,
+        &registers,
+        &slots,
         &mut latch,
-        &mut key,
+        &key,
         &mut eeprom,
-        clocks,
+        by,
     );
-    let core = advanced.core;
     let next = Chip {
-        core: core,
-        slots: slots,
+        clocks: clocks,
+        numbers: numbers,
+        state: state,
         registers: registers,
+        slots: slots,
         latch: latch,
         key: key,
         eeprom: eeprom,
     };
     Outcome {
         chip: next,
-        answer: advanced.answer,
+        answer: answer,
     }
 }
 
@@ -148,32 +169,35 @@ pub fn advance(chip: Chip, clocks: u32) -> Outcome
 pub fn take(chip: Chip, buffer: &mut [u8]) -> Outcome
     ensures { λ r. ⌜ Meets chip (takeFrame (now (buffer .entry))) (r .chip) (r .answer) (now (buffer .exit)) ⌝ }
 {
-    let mut slots = chip.slots;
-    let mut registers = chip.registers;
-    let mut latch = chip.latch;
-    let mut key = chip.key;
-    let mut eeprom = chip.eeprom;
-    let taken = event_take::take(
-        chip.core,
-        &mut slots,
-        &mut registers,
-        &mut latch,
-        &mut key,
-        &mut eeprom,
+    let mut clocks = chip.clocks;
+    let numbers = chip.numbers;
+    let mut state = chip.state;
+    let registers = chip.registers;
+    let slots = chip.slots;
+    let latch = chip.latch;
+    let key = chip.key;
+    let eeprom = chip.eeprom;
+    let answer = event_frame_take::take(
+        &mut clocks,
+        &numbers,
+        &mut state,
+        &registers,
+        &slots,
         buffer,
     );
-    let core = taken.core;
     let next = Chip {
-        core: core,
-        slots: slots,
+        clocks: clocks,
+        numbers: numbers,
+        state: state,
         registers: registers,
+        slots: slots,
         latch: latch,
         key: key,
         eeprom: eeprom,
     };
     Outcome {
         chip: next,
-        answer: taken.answer,
+        answer: answer,
     }
 }
 
@@ -181,33 +205,36 @@ pub fn take(chip: Chip, buffer: &mut [u8]) -> Outcome
 pub fn deliver(chip: Chip, bytes: &[u8], parities: &[u8], last_bits: u8) -> Outcome
     ensures { λ r. ⌜ Meets chip (Refusals·deliver (now (bytes .entry)) (now (parities .entry)) «last_bits») (r .chip) (r .answer) [] ⌝ }
 {
+    let mut clocks = chip.clocks;
+    let numbers = chip.numbers;
+    let mut state = chip.state;
+    let registers = chip.registers;
     let mut slots = chip.slots;
-    let mut registers = chip.registers;
-    let mut latch = chip.latch;
-    let mut key = chip.key;
-    let mut eeprom = chip.eeprom;
-    let delivered = event_deliver::deliver(
-        chip.core,
+    let latch = chip.latch;
+    let key = chip.key;
+    let eeprom = chip.eeprom;
+    let answer = event_frame_deliver::deliver(
+        &mut clocks,
+        &numbers,
+        &mut state,
+        &registers,
         &mut slots,
-        &mut registers,
-        &mut latch,
-        &mut key,
-        &mut eeprom,
         bytes,
         parities,
         last_bits,
     );
-    let core = delivered.core;
     let next = Chip {
-        core: core,
-        slots: slots,
+        clocks: clocks,
+        numbers: numbers,
+        state: state,
         registers: registers,
+        slots: slots,
         latch: latch,
         key: key,
         eeprom: eeprom,
     };
     Outcome {
         chip: next,
-        answer: delivered.answer,
+        answer: answer,
     }
 }

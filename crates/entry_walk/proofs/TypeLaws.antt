@@ -4,9 +4,9 @@ use Prim.Native.Nat.{ℕ, zero, suc, _+_, _%_}
 use mathlib.Core.Path.{_≡_, subst, sym, _∙_}
 use mathlib.Core.List.{List, [], _∷_, map, map-id}
 use lib.Dec.{eqb}
-use lib.ListN.{length, getD, length-map}
+use lib.ListN.{length, length-map}
 use mir.Syntax.{Width, w8, w16, w32}
-use mir.Val.{Val, Fits}
+use mir.Val.{Val}
 use denote.Array.{Array, each}
 use denote.Laws.{Is}
 use denote.Plain.{UInt}

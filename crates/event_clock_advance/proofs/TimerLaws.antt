@@ -1,6 +1,6 @@
 -- What the timer does at a step and a clock, by the tests that the code makes.
 -- Assumes nothing.
-use Prim.Native.Nat.{ℕ, _+_, _-_, _*_, _/_, _%_, _^_, _<_, _≤_}
+use Prim.Native.Nat.{ℕ, _+_, _-_, _*_, _%_, _^_, _<_, _≤_}
 use native.Mathlib.Nat.{one-le-pow}
 use native.Mathlib.Omega.{arith}
 use mathlib.Core.Path.{_≡_, refl, ap, sym, _∙_}
@@ -8,7 +8,7 @@ use mathlib.Core.Bool.{Bool, true, false, cond, not, and-eq-true-iff, _&&_}
 use mathlib.Core.List.{List}
 use lib.ListN.{set, length-set}
 use lib.Dec.{eqb, ltb, leb, lit<}
-use borrow.Author.Tests.{eq-eqb, ne-eqb, lt-ltb, le-ltb, leb-true, eqb-true}
+use borrow.Author.Tests.{lt-ltb, le-ltb, leb-true, eqb-true}
 use Rattle.bits.proofs.Below.{agree}
 use Rattle.machine.specs.State.{Machine, Timer, withTimer}
 use Rattle.machine.specs.Timer.{TAutoRestart, TimerReload, stoppedAt, runningAt, raisedTimer, timerStepped, timerClock}

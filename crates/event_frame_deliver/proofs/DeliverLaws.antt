@@ -1,14 +1,10 @@
 -- Laws of a delivery: which stages receive, what a frame does, by what the code judges of it, and that its bytes are bytes.
 -- Assumes nothing.
-use Prim.Native.Nat.{ℕ, suc}
+use Prim.Native.Nat.{ℕ}
 use mathlib.Core.Path.{_≡_, refl, ap, _∙_}
 use mathlib.Core.Bool.{Bool, true, false, or-true, or-false, _||_}
-use mathlib.Core.List.{List, [], _∷_}
+use mathlib.Core.List.{List}
 use lib.Dec.{eqb}
-use lib.ListN.{getD}
-use mir.Syntax.{w8}
-use mir.Val.{Fits}
-use Rattle.bits.specs.Bits.{Bytes}
 use Rattle.machine.specs.State.{Machine, withRxLastBits}
 use Rattle.machine.specs.Fifo.{offeredAll}
 use Rattle.machine.specs.Commands.{ended}

@@ -1,15 +1,12 @@
 -- Laws of a buffer: its elements are bytes, and bytes are put at its front, with more behind them.
 -- Assumes nothing.
-use Prim.Native.Nat.{ℕ, suc, _+_, _-_, _%_, _<_, _≤_}
+use Prim.Native.Nat.{ℕ, _+_, _-_, _%_, _<_, _≤_}
 use native.Mathlib.Numerals.{add-one}
 use native.Mathlib.Omega.{arith}
 use mathlib.Core.Path.{_≡_, sym, ap, _∙_}
 use mathlib.Core.List.{List, [], _∷_, _++_}
 use lib.ListN.{length, getD, take, drop, set, length-append}
 use lib.Seq.{length-take-le, length-front, take-at, drop-append-add, drop-drop, sets, sets-eq}
-use mir.Syntax.{w8}
-use mir.Val.{Fits}
-use Rattle.bits.specs.Bits.{Bytes}
 use Rattle.state.specs.View.{heldFrom, heldOf}
 use Rattle.state.specs.Turns.{Counts}
 use Rattle.state.proofs.RingLaws.{held-length, held-last, count-length}

@@ -1,12 +1,9 @@
 -- The chip that a start leaves, and that an image's bytes are bytes.
 -- Assumes nothing.
-use Prim.Native.Nat.{ℕ, suc}
+use Prim.Native.Nat.{ℕ}
 use mathlib.Core.Path.{_≡_, refl, ap, _∙_}
-use mathlib.Core.List.{List, [], _∷_}
-use lib.ListN.{length, getD, set, replicate}
-use mir.Syntax.{w8}
-use mir.Val.{Fits}
-use Rattle.bits.specs.Bits.{Bytes}
+use mathlib.Core.List.{List, []}
+use lib.ListN.{length, set, replicate}
 use Rattle.machine.specs.Memory.{bytesFrom, overRegisters}
 use Rattle.machine.specs.Refusals.{start}
 use Rattle.machine.specs.Events.{started}

@@ -1,8 +1,8 @@
 // A walk through checksums and frames, sent and received, as a table with a line for each step. `walkthrough` has the rest of the chip.
 use blank_chip::blank_chip;
-use chip::Chip;
 use register_table::steps;
 use register_table::table;
+use state::Chip;
 
 // A start from an image of zeros, and the settings that the frames go by, as the MFRC531 is shipped: the preset 6363h, WaterLevel 8, and a timer
 // that a frame sent starts and a frame received stops.

@@ -3,8 +3,8 @@
 // The first byte is programmed alone, since none waits behind it yet; then the three that fit before the block's end at 16Fh; then the last,
 // at 170h. Each programming takes 78,648 clocks. A line is printed one clock before the end of each and at its end.
 use blank_chip::blank_chip;
-use chip::Chip;
 use libc::STDOUT_FILENO;
+use state::Chip;
 
 const COMMAND: u8 = 0x01;
 

@@ -7,8 +7,8 @@ use native.Mathlib.Numerals.{add-one}
 use lib.ListN.{length, getD, drop, drop-of-length-le}
 use lib.Seq.{drop-cons}
 use Rattle.machine.specs.Refusals.{Call, hostWrite}
-use Rattle.chip.specs.Meets.{Meets}
-use Rattle.chip.specs.declared.Chip.{Chip}
+use Rattle.state.specs.Meets.{Meets}
+use Rattle.state.specs.declared.Chip.{Chip}
 use Rattle.register_table.specs.Leads.{LeadsBy, none, next}
 
 -- Calls, then others.

@@ -3,8 +3,8 @@
 use Prim.Native.Nat.{ℕ}
 use mathlib.Core.List.{List, [], _∷_}
 use Rattle.machine.specs.Refusals.{Call}
-use Rattle.chip.specs.Meets.{Meets}
-use Rattle.chip.specs.declared.Chip.{Chip}
+use Rattle.state.specs.Meets.{Meets}
+use Rattle.state.specs.declared.Chip.{Chip}
 
 -- The calls lead from a chip to another: each gets the chip that the one before left, and meets the events' relation, with some answer and buffer.
 pub data LeadsBy : List Call → Chip → Chip → Type 0 where

@@ -7,7 +7,7 @@ ghost use Rattle.machine.specs.Refusals.{start as Refusals·start, hostRead, ho
 ghost use Rattle.register_table.specs.Leads.{LeadsBy};
 use crate::table;
 use by_value::Outcome;
-use chip::Chip;
+use state::Chip;
 
 const COMMAND: u8 = 0x01;
 

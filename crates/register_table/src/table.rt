@@ -1,8 +1,8 @@
 // The table that the program prints: a line for each step, with what was answered and what the registers are after it. The functions here print
 // and answer nothing. Their contracts say only the latter: what is printed is no part of a contract.
 ghost use mathlib.Core.Path.{_≡_};
-use chip::Chip;
 use libc::STDOUT_FILENO;
+use state::Chip;
 
 fn text(words: &[u8]) {
     io::write_all(STDOUT_FILENO, words);

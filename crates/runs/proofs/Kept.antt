@@ -16,9 +16,10 @@ use Rattle.machine.proofs.WellFormed.Kept.{well-formedness}
 use Rattle.journal.specs.Journal.{Journal, Both, empty, called, after}
 use Rattle.journal.specs.Demand.{run, Conserved, NextCall}
 use Rattle.journal.proofs.Demand.{demand-3}
-use Rattle.chip.specs.View.{view, chipFormed}
-use Rattle.chip.specs.Meets.{coded, chipRefusal, Meets}
-use Rattle.chip.specs.declared.Chip.{Chip}
+use Rattle.state.specs.View.{view}
+use Rattle.state.specs.Formed.{chipFormed}
+use Rattle.state.specs.Meets.{coded, chipRefusal, Meets}
+use Rattle.state.specs.declared.Chip.{Chip}
 use Rattle.runs.specs.Run.{Step, callsOf, Called, in-place, by-start, by-host-read, by-host-write, by-advance, by-take, by-deliver, Run, end, next, AsDefined, Kept, ProgramDemand3}
 
 -- A well-formed chip is refused as its machine is.

@@ -10,9 +10,10 @@ use Rattle.machine.specs.Refusals.{Call, start, hostRead, hostWrite, advance, t
 use Rattle.machine.specs.Events.{perform}
 use Rattle.journal.specs.Journal.{Both, called, after}
 use Rattle.journal.specs.Demand.{run, Conserved, NextCall}
-use Rattle.chip.specs.View.{view, chipFormed}
-use Rattle.chip.specs.Meets.{coded, Meets}
-use Rattle.chip.specs.declared.Chip.{Chip}
+use Rattle.state.specs.View.{view}
+use Rattle.state.specs.Formed.{chipFormed}
+use Rattle.state.specs.Meets.{coded, Meets}
+use Rattle.state.specs.declared.Chip.{Chip}
 use Rattle.by_value.specs.declared.Outcome.{Outcome}
 use Rattle.by_value.proofs.start.Reads as start-ensures
 use Rattle.by_value.proofs.host_read.Reads as host-read-ensures

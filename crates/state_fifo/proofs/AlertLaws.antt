@@ -1,10 +1,10 @@
 -- Laws of the alerts: those that are new make the requests that an event's end sets.
 -- Assumes nothing.
-use Prim.Native.Nat.{ℕ, _+_, _-_, _*_, _≤_}
+use Prim.Native.Nat.{ℕ, _+_, _-_, _*_}
 use native.Mathlib.Omega.{arith}
 use mathlib.Core.Path.{_≡_, refl, sym, ap, _∙_}
 use mathlib.Core.Bool.{Bool, true, false, not, or-true, or-false, _&&_, _||_}
-use lib.Bits.{bitAnd, and-le-l}
+use lib.Bits.{bitAnd}
 use lib.Dec.{leb}
 use lib.ListN.{length}
 use borrow.Author.Tests.{le-leb, lt-leb, leb-true, leb-false}
@@ -12,7 +12,7 @@ use Rattle.machine.specs.State.{Machine, withRequests}
 use Rattle.machine.specs.Fifo.{waterLevel, loAlert, hiAlert, alerted}
 use Rattle.machine.specs.Registers.{flag}
 use Rattle.state.specs.View.{raised}
-use Rattle.state_fifo.specs.Alerts.{alertBits, alertsOf, alertedFrom}
+use Rattle.state_fifo.specs.Alerts.{alertsOf, alertedFrom}
 
 -- "64 - held ≤ WaterLevel", turned around.
 pub high-level : (held level : ℕ) → leb (64 - level) held ≡ leb (64 - held) level

@@ -3,14 +3,13 @@
 use Prim.Native.Nat.{ℕ, _+_, _-_, _%_, _<_, _≤_}
 use native.Mathlib.Omega.{arith}
 use mathlib.Core.Path.{_≡_, refl, sym, ap, _∙_}
-use mathlib.Core.Bool.{Bool, true, false, not, or-false, _&&_}
 use mathlib.Core.List.{List, [], _∷_, _++_}
 use lib.Bits.{bitAnd}
 use lib.Dec.{ltb}
 use lib.ListN.{length, getD, drop, set, length-set, length-append}
 use borrow.Author.Tests.{lt-ltb, le-ltb}
 use Rattle.machine.specs.State.{Machine, withHeld}
-use Rattle.machine.specs.Fifo.{firstOf, restOf, waterLevel, offered, alerted}
+use Rattle.machine.specs.Fifo.{firstOf, restOf, offered, alerted}
 use Rattle.machine.proofs.WellFormed.Parts.{either}
 use Rattle.state.specs.View.{at, view, viewOf, heldCount, heldOf, raised, marked}
 use Rattle.state.specs.Lent.{stateSlots}
@@ -18,7 +17,7 @@ use Rattle.state.specs.Turns.{Counts, Turns}
 use Rattle.state.proofs.RingLaws.{held-at, count-length, ring-stored}
 use Rattle.state.proofs.StoreLaws.{at-set, stored, keeps-byte}
 use Rattle.state.proofs.TurnLaws.{sized-slots, sized-state}
-use Rattle.state_fifo.specs.Alerts.{alertBits, alertsOf, alertedFrom}
+use Rattle.state_fifo.specs.Alerts.{alertBits, alertsOf}
 use Rattle.state_fifo.proofs.AlertLaws.{alerted-from, alerted-same}
 
 -- What the machine does with a byte that is offered, by how many it holds.

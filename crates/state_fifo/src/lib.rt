@@ -8,7 +8,7 @@ ghost use Rattle.machine.specs.State.{withHeld};
 ghost use Rattle.machine.specs.Fifo.{firstOf, restOf, alerted as Fifo·alerted, offered as Fifo·offered};
 ghost use Rattle.machine.specs.Commands.{argument as Commands·argument, taken as Commands·taken};
 ghost use Rattle.machine.specs.Registers.{flag as Registers·flag};
-ghost use Rattle.state.specs.View.{withState, withRegisters};
+ghost use Rattle.state.specs.View.{withState};
 ghost use Rattle.state.specs.Lent.{stateRegisters, stateSlots, stateRegistersSlots};
 ghost use Rattle.state.specs.Turns.{Turns, Reads};
 ghost use Rattle.state_fifo.specs.Alerts.{alertBits, alertsOf, alertedFrom};

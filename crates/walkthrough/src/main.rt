@@ -1,8 +1,9 @@
 // A walk through the chip: FIFO, EEPROM, keys, timer and refusals, as a table with a line for each step. `exchanges` has checksums and frames.
 use blank_chip::blank_chip;
-use chip::Chip;
 use register_table::steps;
 use register_table::table;
+use state::Chip;
+use state::PAGE;
 
 // Bytes from an address on. An index is kept inside the image by a remainder, so that every call is safe.
 fn place(image: &mut [u8; 512], at: usize, bytes: &[u8]) {
@@ -167,9 +168,9 @@ fn refused(chip: Chip, image: &[u8; 512]) {
     let mut c = steps::read(chip, 64, b"read address 64: refused");
     c = steps::write(c, 64, 0x00, b"write address 64: refused");
     c = steps::clocks(c, 65_536, b"65,536 clocks: refused");
-    let mut core = c.core;
-    core.page = 0x08;
-    c.core = core;
+    let mut bytes = c.state;
+    bytes[PAGE] = 0x08;
+    c.state = bytes;
     c = steps::read(c, 0x01, b"read Command of a malformed chip: refused");
     steps::start(
         c,

@@ -1,6 +1,6 @@
--- `by_value::advance` meets its contract: the event on the parts promises it. Assumes nothing.
+-- `by_value::advance` meets its contract: the event on the arrays promises it. Assumes nothing.
 use borrow.Author.Needs.{needs}
-use Rattle.events.proofs.TypeLaws.{whole-chip}
+use Rattle.entry_walk.proofs.TypeLaws.{whole-chip}
 use Rattle.by_value.proofs.advance.Statement.{statement}
 use Rattle.by_value.proofs.advance.Tie as tie
 
@@ -9,8 +9,9 @@ advance-requires c κs = search needs
 
 returns : tie.Need-returns
 returns c =
-    let place = c .before .before .before .before .before .before .before .before .before .before .before .before in
-    c .before .advance .ensures (whole-chip (place .args .chip) (place .good .0 .1 .1 .1)) .0
+    let place = c .before .before .before .before .before .before .before .before .before .before .before .before .before .before .before .before .before in
+    let chip = place .args .chip in
+    c .advance .ensures (whole-chip chip (place .good .0 .1 .1)) .0
 
 pub advance-spec : {M : Type 1} → statement M
 advance-spec = tie.close (tie.spec advance-requires returns)

@@ -1,6 +1,6 @@
--- `by_value::deliver` meets its contract: the event on the parts promises it. Assumes nothing.
+-- `by_value::deliver` meets its contract: the event on the arrays promises it. Assumes nothing.
 use borrow.Author.Needs.{needs}
-use Rattle.events.proofs.TypeLaws.{whole-chip}
+use Rattle.entry_walk.proofs.TypeLaws.{whole-chip}
 use Rattle.by_value.proofs.deliver.Statement.{statement}
 use Rattle.by_value.proofs.deliver.Tie as tie
 
@@ -9,8 +9,9 @@ deliver-requires c κs = search needs
 
 returns : tie.Need-returns
 returns c =
-    let place = c .before .before .before .before .before .before .before .before .before .before .before .before .before .before in
-    c .before .deliver .ensures (whole-chip (place .args .chip) (place .good .0 .1 .1 .1)) .0
+    let place = c .before .before .before .before .before .before .before .before .before .before .before .before .before .before .before .before in
+    let chip = place .args .chip in
+    c .deliver .ensures chip (whole-chip chip (place .good .0 .1 .1)) .0
 
 pub deliver-spec : {M : Type 1} → statement M
 deliver-spec = tie.close (tie.spec deliver-requires returns)

@@ -1,6 +1,6 @@
--- `by_value::host_read` meets its contract: the event on the parts promises it. Assumes nothing.
+-- `by_value::host_read` meets its contract: the event on the arrays promises it. Assumes nothing.
 use borrow.Author.Needs.{needs}
-use Rattle.events.proofs.TypeLaws.{whole-chip}
+use Rattle.entry_walk.proofs.TypeLaws.{whole-chip}
 use Rattle.by_value.proofs.host_read.Statement.{statement}
 use Rattle.by_value.proofs.host_read.Tie as tie
 
@@ -9,8 +9,9 @@ host-read-requires c κs = search needs
 
 returns : tie.Need-returns
 returns c =
-    let place = c .before .before .before .before .before .before .before .before .before .before .before .before in
-    c .before .host-read .ensures (whole-chip (place .args .chip) (place .good .0 .1 .1 .1)) .0
+    let place = c .before .before .before .before .before .before .before .before .before .before .before .before .before .before in
+    let chip = place .args .chip in
+    c .host-read .ensures chip (whole-chip chip (place .good .0 .1 .1)) .0
 
 pub host-read-spec : {M : Type 1} → statement M
 host-read-spec = tie.close (tie.spec host-read-requires returns)

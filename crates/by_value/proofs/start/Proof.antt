@@ -1,6 +1,6 @@
--- `by_value::start` meets its contract: the event on the parts promises it. Assumes nothing.
+-- `by_value::start` meets its contract: the event on the arrays promises it. Assumes nothing.
 use borrow.Author.Needs.{needs}
-use Rattle.events.proofs.TypeLaws.{whole-chip}
+use Rattle.entry_walk.proofs.TypeLaws.{whole-chip}
 use Rattle.by_value.proofs.start.Statement.{statement}
 use Rattle.by_value.proofs.start.Tie as tie
 
@@ -9,8 +9,9 @@ start-requires c κs = search needs
 
 returns : tie.Need-returns
 returns c =
-    let place = c .before .before .before .before .before .before .before .before .before .before .before .before .before in
-    c .before .start .ensures (whole-chip (place .args .chip) (place .good .0 .1 .1 .1)) .0
+    let place = c .before .before .before .before .before .before .before .before .before .before .before .before .before .before .before .before .before .before in
+    let chip = place .args .chip in
+    c .start .ensures (whole-chip chip (place .good .0 .1 .1)) .0
 
 pub start-spec : {M : Type 1} → statement M
 start-spec = tie.close (tie.spec start-requires returns)

@@ -1,6 +1,6 @@
--- `by_value::take` meets its contract: the event on the parts promises it. Assumes nothing.
+-- `by_value::take` meets its contract: the event on the arrays promises it. Assumes nothing.
 use borrow.Author.Needs.{needs}
-use Rattle.events.proofs.TypeLaws.{whole-chip}
+use Rattle.entry_walk.proofs.TypeLaws.{whole-chip}
 use Rattle.by_value.proofs.take.Statement.{statement}
 use Rattle.by_value.proofs.take.Tie as tie
 
@@ -12,8 +12,9 @@ same-length c = search needs
 
 returns : tie.Need-returns
 returns c =
-    let place = c .before .before .before .before .before .before .before .before .before .before .before .before .before .before .before .before in
-    c .before .before .before .take .ensures (whole-chip (place .args .chip) (place .good .0 .1 .1 .1)) .0
+    let place = c .before .before .before .before .before .before .before .before .before .before .before .before .before .before .before .before .before .before in
+    let chip = place .args .chip in
+    c .before .before .take .ensures chip (whole-chip chip (place .good .0 .1 .1)) .0
 
 pub take-spec : {M : Type 1} → statement M
 take-spec = tie.close (tie.spec take-requires same-length returns)

@@ -3,7 +3,6 @@ use Prim.Native.Nat.{ℕ}
 use mathlib.Core.Path.{ap, _∙_}
 use Rattle.machine.specs.Memory.{addressOf}
 use Rattle.machine.specs.Commands.{argument}
-use Rattle.state.specs.View.{view}
 use borrow.Author.Needs.{needs}
 use Rattle.command_arguments.proofs.address.Statement.{statement}
 use Rattle.command_arguments.proofs.address.Tie as tie

@@ -4,10 +4,10 @@ use Prim.Native.Nat.{ℕ, _%_}
 use native.Mathlib.Omega.{arith}
 use lib.ListN.{take}
 use mathlib.Core.Path.{_≡_, refl, sym, ap, _∙_}
-use Rattle.machine.specs.State.{WriteE2, ReadE2, LoadConfig, LoadKeyE2, LoadKey, CalcCRC, addressing, ready}
+use Rattle.machine.specs.State.{ReadE2, LoadConfig, LoadKeyE2, LoadKey, addressing, ready}
 use Rattle.machine.specs.Memory.{addressOf}
 use Rattle.machine.specs.Commands.{enough, argument, taken, readFrom, configuredFrom, keyFrom, keyJudged, writeStepped, settled}
-use Rattle.state.specs.View.{at, core, view, viewOf, commandOf}
+use Rattle.state.specs.View.{core, view, viewOf}
 use Rattle.state.specs.Lent.{assembled, clocksNumbersState}
 use Rattle.state.proofs.RingLaws.{count-length}
 use Rattle.state.proofs.TurnLaws.{stays, then, becomes}

@@ -2,14 +2,12 @@
 use borrow.Author.Needs.{needs}
 use denote.Ref.{now}
 use native.Mathlib.Omega.{arith}
-use mathlib.Core.Path.{refl, ap, _∙_}
-use mathlib.Core.Bool.{true, _&&_}
+use mathlib.Core.Path.{refl, _∙_}
 use lib.ListN.{set, length-set}
 use Rattle.machine.specs.State.{Idle, withCommand}
 use Rattle.machine.proofs.WellFormed.Parts.{both}
-use Rattle.state.specs.View.{at, viewOf}
+use Rattle.state.specs.View.{viewOf}
 use Rattle.state.specs.Lent.{clocksState}
-use Rattle.state.specs.Formed.{fieldsFormed}
 use Rattle.state.proofs.StoreLaws.{at-set, stored, next-near, bytes-agree}
 use Rattle.state.proofs.TurnLaws.{then, sized-clocks, sized-state}
 use Rattle.state.proofs.ended.Statement.{statement}

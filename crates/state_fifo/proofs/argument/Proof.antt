@@ -1,11 +1,11 @@
 -- `state_fifo::argument` meets its contract: the byte is in the slot so far from the first one. Assumes nothing.
 use denote.Ref.{now}
-use Prim.Native.Nat.{ℕ, _+_, _%_, _<_}
+use Prim.Native.Nat.{ℕ, _+_, _%_}
 use native.Mathlib.Omega.{arith}
 use mathlib.Core.Path.{_≡_, sym, ap, _∙_}
 use lib.ListN.{getD, List·getD-eq-default}
 use Rattle.state.specs.View.{at, heldCount, heldOf, viewOf}
-use Rattle.state.proofs.RingLaws.{held-at, held-length, count-length}
+use Rattle.state.proofs.RingLaws.{held-at, count-length}
 use borrow.Author.Needs.{needs}
 use Rattle.state_fifo.proofs.argument.Statement.{statement}
 use Rattle.state_fifo.proofs.argument.Tie as tie

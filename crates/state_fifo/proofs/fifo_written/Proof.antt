@@ -1,11 +1,9 @@
 -- `state_fifo::fifo_written` meets its contract, by whether there is room; the alerts are those over that. Assumes nothing.
 use denote.Ref.{now}
-use Prim.Native.Nat.{_-_, _+_, _%_, _<_}
+use Prim.Native.Nat.{_+_, _%_, _<_}
 use native.Mathlib.Omega.{arith}
-use mathlib.Core.Path.{refl, sym, ap, _∙_}
-use mathlib.Core.List.{[], _∷_}
-use lib.Bits.{bitAnd}
-use lib.ListN.{set, length-append}
+use mathlib.Core.Path.{ap, _∙_}
+use lib.ListN.{set}
 use Rattle.machine.specs.Fifo.{offered, alerted}
 use Rattle.state.specs.View.{at, view, viewOf}
 use Rattle.state.specs.Lent.{stateRegistersSlots}

@@ -1,18 +1,12 @@
 -- `state_fifo::offered` meets its contract, by whether there is room. Assumes nothing.
 use denote.Ref.{now}
-use Prim.Native.Nat.{ℕ, _%_}
 use native.Mathlib.Omega.{arith}
-use mathlib.Core.Path.{refl, ap, sym, _∙_}
-use mathlib.Core.List.{List}
-use lib.Dec.{lit<}
-use lib.ListN.{set, length-set}
-use Rattle.machine.specs.State.{withHeld}
 use Rattle.machine.specs.Fifo.{offered}
-use Rattle.state.specs.View.{at, view, viewOf, withSlots}
+use Rattle.state.specs.View.{view, viewOf}
 use Rattle.state.specs.Lent.{stateSlots}
-use Rattle.state.proofs.RingLaws.{count-length, ring-stored}
-use Rattle.state.proofs.TurnLaws.{becomes, sized-slots}
-use Rattle.state_fifo.proofs.FifoLaws.{offer-stored, offer-refused, stored-byte}
+use Rattle.state.proofs.RingLaws.{count-length}
+use Rattle.state.proofs.TurnLaws.{becomes}
+use Rattle.state_fifo.proofs.FifoLaws.{offer-refused, stored-byte}
 use borrow.Author.Needs.{needs}
 use Rattle.state_fifo.proofs.offered.Statement.{statement}
 use Rattle.state_fifo.proofs.offered.Tie as tie

@@ -1,6 +1,6 @@
 -- `event_clock_advance::clock::clocked` meets its contract: the timer's clock, which keeps the command and leaves a well-formed machine, and then the command's. Assumes nothing.
 use denote.Ref.{now}
-use mathlib.Core.Path.{sym, ap, _∙_}
+use mathlib.Core.Path.{ap}
 use Rattle.machine.specs.State.{Command}
 use Rattle.machine.specs.Timer.{timerClock}
 use Rattle.machine.specs.Events.{commandClocked, clock}
@@ -9,7 +9,7 @@ use Rattle.machine.proofs.WellFormed.Timer.{ticked}
 use Rattle.state.specs.View.{view, viewOf}
 use Rattle.state.specs.Lent.{clocksState}
 use Rattle.state.proofs.TurnLaws.{then, becomes}
-use Rattle.event_clock_advance.specs.Clock.{clockedIn, clocksCommand}
+use Rattle.event_clock_advance.specs.Clock.{clockedIn}
 use Rattle.event_clock_advance.proofs.TimerLaws.{formed-fits}
 use Rattle.event_clock_advance.proofs.BatchLaws.{formed-by}
 use borrow.Author.Needs.{needs}

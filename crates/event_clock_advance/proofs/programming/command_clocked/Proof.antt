@@ -1,18 +1,10 @@
 -- `event_clock_advance::programming::command_clocked` meets its contract: no programming, one that goes on, or one that ends. Assumes nothing.
 use denote.Ref.{now}
-use Prim.Native.Nat.{_-_}
-use native.Mathlib.Omega.{arith}
-use mathlib.Core.Path.{_≡_, refl, sym, ap, _∙_}
-use lib.ListN.{set, length-set, take}
-use borrow.Author.Tests.{lt-ltb}
-use Rattle.machine.specs.State.{Command, withCommand}
-use Rattle.machine.proofs.WellFormed.Parts.{both}
-use Rattle.state.specs.View.{at, batchStart, core, view, viewOf}
+use Rattle.state.specs.View.{at, core, view, viewOf}
 use Rattle.state.specs.Lent.{clocksNumbersStateSlotsLatchEeprom}
-use Rattle.state.proofs.StoreLaws.{at-set, stored, stage-agrees, bytes-agree}
-use Rattle.state.proofs.TurnLaws.{stays, becomes, sized-clocks}
+use Rattle.state.proofs.TurnLaws.{stays, becomes}
 use Rattle.event_clock_advance.specs.Clock.{clocksCommand}
-use Rattle.event_clock_advance.proofs.BatchLaws.{programs-here, is-programming, clock-rests, clock-falls, clock-ends, falls-turns}
+use Rattle.event_clock_advance.proofs.BatchLaws.{programs-here, is-programming, clock-rests, clock-ends, falls-turns}
 use borrow.Author.Needs.{needs}
 use Rattle.event_clock_advance.proofs.programming.command_clocked.Statement.{statement}
 use Rattle.event_clock_advance.proofs.programming.command_clocked.Tie as tie

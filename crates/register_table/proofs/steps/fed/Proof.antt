@@ -3,7 +3,7 @@ use borrow.Author.Needs.{needs}
 use Prim.Native.Nat.{_-_}
 use denote.Ref.{now}
 use lib.ListN.{length}
-use Rattle.chip.specs.declared.Chip.{Chip}
+use Rattle.state.specs.declared.Chip.{Chip}
 use Rattle.register_table.proofs.LeadLaws.{FeedsFrom, feed-turn, feed-end}
 use Rattle.register_table.proofs.steps.fed.Statement.{statement}
 use Rattle.register_table.proofs.steps.fed.Tie as tie

@@ -1,0 +1,182 @@
+-- `event_host_write::host_write` meets its contract, by the refusals in their order, and then by the way that the code takes. Assumes nothing.
+use borrow.Author.Needs.{needs}
+use borrow.Author.Tests.{lt-ltb, not-true, not-false}
+use denote.Ref.{now}
+use native.Mathlib.Omega.{arith}
+use mathlib.Core.Path.{_≡_, sym, ap, _∙_}
+use mathlib.Core.Bool.{Bool, true}
+use Rattle.machine.specs.Refusals.{Call, hostWrite, refuseIf}
+use Rattle.state.specs.View.{viewOf}
+use Rattle.state.specs.Formed.{chipFormed}
+use Rattle.state.specs.Lent.{numbersState, stateSlots, clocksStateRegisters, assembled}
+use Rattle.state.specs.Meets.{Whole}
+use Rattle.state.specs.declared.Chip.{Chip}
+use Rattle.state.proofs.RingLaws.{count-length}
+use Rattle.state.proofs.MeetLaws.{refused, malformed, write-refusal}
+use Rattle.event_host_write.proofs.WriteLaws.{Passes, data-worked, data-summed, data-waits, command-worked, command-begins, other-wrote}
+use Rattle.event_host_write.proofs.host_write.Statement.{statement}
+use Rattle.event_host_write.proofs.host_write.Tie as tie
+
+-- The chip, and the call, where the function began.
+abbrev at-entry : tie.Start → Chip
+at-entry s = let a = s .args in assembled (now (a .clocks)) (now (a .numbers)) (now (a .state)) (now (a .registers)) (now (a .slots)) (now (a .latch)) (now (a .key)) (now (a .eeprom))
+
+abbrev called : tie.Start → Call
+called s = hostWrite (s .args .address) (s .args .v)
+
+-- It is judged, and past the first test it is well formed.
+abbrev entered : tie.After-judged → tie.Start
+entered call = call .before .before .before .before
+
+judgement : (call : tie.After-judged) → Whole (at-entry (entered call)) → call .judged .result ≡ chipFormed (at-entry (entered call))
+judgement call whole = call .judged .ensures (at-entry (entered call)) (whole .sizes)
+
+well-formed : (past : tie.Else1) → Whole (at-entry (entered (past .before))) → chipFormed (at-entry (entered (past .before))) ≡ true
+well-formed past whole = sym (judgement (past .before) whole) ∙ not-false _ (past .if1 .left)
+
+-- Past both tests, with the register found.
+abbrev began : tie.After-mapped → tie.Start
+began found = entered (found .before .before .before .before)
+
+passes : (found : tie.After-mapped) → Whole (at-entry (began found)) →
+    Passes (at-entry (began found)) (began found .args .address) (found .mapped .result) (began found .args .v)
+unfolding viewOf
+passes found whole =
+    let past = found .before .before in
+    record { formed = well-formed (past .before) whole; whole = whole; low = omega (arith, past .if2 .left); byte = began found .fits .v .fits; is = found .mapped .ensures }
+
+judged-requires : tie.Need-judged-requires
+judged-requires c κs = search needs
+
+returns : tie.Need-returns
+returns c whole =
+    let call = c .before in
+    malformed (at-entry (entered call)) (called (entered call)) tt (sym (judgement call whole) ∙ not-true _ (c .if1 .taken)) whole
+
+returns-2 : tie.Need-returns-2
+returns-2 c whole =
+    let s = entered (c .before .before) in
+    let address = s .args .address in
+    refused (at-entry s) (called s) 0
+    (write-refusal (at-entry s) (well-formed (c .before) whole) address (s .args .v) 1
+    (ap (λ (t : Bool). refuseIf t 1 0) (lt-ltb 63 address (omega (arith, c .if2 .taken)))) .0) whole
+
+element-copy-out-mapped : tie.Need-element-copy-out-mapped
+element-copy-out-mapped c = search needs
+
+mapped-requires : tie.Need-mapped-requires
+mapped-requires c κs = search needs
+
+element-copy-out-stage : tie.Need-element-copy-out-stage
+element-copy-out-stage c = search needs
+
+checksum-fed-requires : tie.Need-checksum-fed-requires
+checksum-fed-requires c κs = search needs
+
+returns-3 : tie.Need-returns-3
+returns-3 c whole =
+    let tested = c .before .before .before in
+    let third = tested .before .before in
+    let found = third .before in
+    let old = at-entry (began found) in
+    let fed = c .checksum-fed in
+    data-summed (passes found whole) (numbersState (fed .last .0) (fed .last .1 .0) old) (third .if3 .taken) (tested .if4 .taken) (fed .ensures old (whole .sizes))
+
+fifo-written-requires : tie.Need-fifo-written-requires
+fifo-written-requires c κs = search needs
+
+returns-4 : tie.Need-returns-4
+returns-4 c whole =
+    let tested = c .before .before .before .before in
+    let third = tested .before .before .before in
+    let found = third .before in
+    let old = at-entry (began found) in
+    let stored = c .fifo-written in
+    data-waits (passes found whole) (stateSlots (stored .last .0) (stored .last .1 .1 .0) old) (third .if3 .taken) (tested .if5 .taken) (stored .ensures old (whole .sizes))
+
+fifo-worked-requires : tie.Need-fifo-worked-requires
+fifo-worked-requires c κs = search needs
+
+returns-5 : tie.Need-returns-5
+returns-5 c whole =
+    let third = c .before .before .before .before .before .before .before .before .before .before .before in
+    let found = third .before in
+    let l = c .fifo-worked .last in
+    let next = assembled (l .0) (l .1 .0) (l .1 .1 .0) (l .1 .1 .1 .0) (l .1 .1 .1 .1 .0) (l .1 .1 .1 .1 .1 .0) (l .1 .1 .1 .1 .1 .1 .0) (now (began found .args .eeprom)) in
+    data-worked (passes found whole) next (third .if3 .taken) (c .fifo-worked .ensures (whole .sizes))
+
+held-requires : tie.Need-held-requires
+held-requires c κs = search needs
+
+element-copy-out-begins-checksum : tie.Need-element-copy-out-begins-checksum
+element-copy-out-begins-checksum c = search needs
+
+begins-checksum-requires : tie.Need-begins-checksum-requires
+begins-checksum-requires c κs = search needs
+
+checksum-begun-requires : tie.Need-checksum-begun-requires
+checksum-begun-requires c κs = search needs
+
+returns-6 : tie.Need-returns-6
+unfolding viewOf
+returns-6 c whole =
+    let tested = c .before .before .before .before in
+    let asked = tested .before in
+    let counted = asked .before .before in
+    let sixth = counted .before .before in
+    let found = sixth .before .before in
+    let old = at-entry (began found) in
+    let begun = c .checksum-begun in
+    let test = sym (asked .begins-checksum .ensures) ∙ tested .if7 .taken in
+    command-begins (passes found whole) (numbersState (begun .last .0) (begun .last .1 .0) old) (sixth .if6 .taken)
+    (counted .held .result) (count-length (counted .held .ensures) (old .slots)) test (λ none. begun .ensures old none (whole .sizes))
+
+command-worked-requires : tie.Need-command-worked-requires
+command-worked-requires c κs = search needs
+
+returns-7 : tie.Need-returns-7
+returns-7 c whole =
+    let sixth = c .before .before .before .before .before .before .before .before .before .before .before .before .before in
+    let found = sixth .before .before in
+    let l = c .command-worked .last in
+    let next = assembled (l .0) (l .1 .0) (l .1 .1 .0) (l .1 .1 .1 .0) (l .1 .1 .1 .1 .0) (l .1 .1 .1 .1 .1 .0) (l .1 .1 .1 .1 .1 .1 .0) (now (began found .args .eeprom)) in
+    command-worked (passes found whole) next (sixth .if6 .taken) (c .command-worked .ensures (whole .sizes))
+
+register-written-requires : tie.Need-register-written-requires
+register-written-requires c κs = search needs
+
+returns-8 : tie.Need-returns-8
+returns-8 c whole =
+    let sixth = c .before .before .before .before in
+    let third = sixth .before in
+    let found = third .before in
+    let old = at-entry (began found) in
+    let written = c .register-written in
+    other-wrote (passes found whole) (clocksStateRegisters (written .last .0) (written .last .1 .0) (written .last .1 .1 .0) old) (sixth .if6 .left) (third .if3 .left)
+    (written .ensures old (whole .sizes))
+
+pub host-write-spec : {M : Type 1} → statement M
+host-write-spec =
+    tie.close
+    (tie.spec
+    judged-requires
+    returns
+    returns-2
+    element-copy-out-mapped
+    mapped-requires
+    element-copy-out-stage
+    checksum-fed-requires
+    returns-3
+    fifo-written-requires
+    returns-4
+    fifo-worked-requires
+    returns-5
+    held-requires
+    element-copy-out-begins-checksum
+    begins-checksum-requires
+    checksum-begun-requires
+    returns-6
+    command-worked-requires
+    returns-7
+    register-written-requires
+    returns-8)

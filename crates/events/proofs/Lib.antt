@@ -1,2 +1,0 @@
-pub mod MeetLaws
-pub mod TypeLaws

@@ -1,1 +1,0 @@
-// The walk through an entry point that lends a chip by `&mut`: proofs alone (proofs/InPlace.antt), for every shape of signature.

@@ -16,7 +16,7 @@ help:
 	@echo 'make test     every test; its last line is the verdict of rt ci'
 	@echo 'make library  build/libbench.a, for include/mfrc531.h'
 	@echo 'make install  library, header and pkg-config file under PREFIX (default /usr/local)'
-	@echo 'make bench    the library beside a plain Rust chip, into docs/PERFORMANCE.md'
+	@echo 'make bench    the library beside a plain Rust chip, times and instructions, into docs/PERFORMANCE.md'
 	@echo 'make soak     the differential test for SOAK_CALLS calls (default 50,000,000)'
 	@echo 'make check    prove what has changed'
 	@echo 'make clean    remove what was built'
@@ -49,10 +49,15 @@ test: $(BUILD)/lock $(BUILD)/profile_check $(BUILD)/libcrc_exports.a
 	tests/profile_check $(BUILD)/profile_check
 	tests/firmware $(BUILD)
 	tests/differential/run $(CALLS)
+	tests/instructions --check docs/PERFORMANCE.md
 	rt ci
 
-bench: $(BUILD)/libbench.a $(BUILD)/libcrc_exports.a
-	tests/differential/bench docs/PERFORMANCE.md
+# The same library with a second exported caller of the events, for a look at what that costs.
+$(BUILD)/libsecond_caller.a: FORCE
+	@tests/second_caller $@
+
+bench: $(BUILD)/libbench.a $(BUILD)/libcrc_exports.a $(BUILD)/libsecond_caller.a
+	tests/differential/bench docs/PERFORMANCE.md second_caller
 
 soak: $(BUILD)/libbench.a $(BUILD)/libcrc_exports.a
 	tests/differential/run $(SOAK_CALLS)

@@ -120,9 +120,9 @@ static void refused(void)
     mfrc531_answer answer = mfrc531_read(&chip, 64);
     printf("read at address 64                 refused with %u\n", mfrc531_refusal_of(answer));
     mfrc531_chip broken = chip;
-    broken.core.command = 0x3E; /* no command of the chip */
+    broken.stage = 0x3E; /* no command of the chip has this stage */
     answer = mfrc531_write(&broken, FIFO_DATA, 0x55);
-    printf("write on a chip with command 3E    refused with %u\n", mfrc531_refusal_of(answer));
+    printf("write on a chip with stage 3E      refused with %u\n", mfrc531_refusal_of(answer));
 }
 
 int main(void)

@@ -49,25 +49,53 @@ static inline uint8_t mfrc531_last_bits_of(mfrc531_answer answer) { return (uint
 
 /* ---- The chip ------------------------------------------------------------------------------------------------------------------------ */
 
-/* A chip's whole state. Begin with mfrc531_start, which takes any memory. Read it freely; what you write into it is judged by the next call. */
-typedef struct {
-    struct { uint32_t phase; uint16_t prescaler; uint8_t running, value; } timer; /* what is kept while the timer runs, TRunning, TimerValue */
-    struct { uint32_t left; uint16_t next; uint8_t addressed, latched; } writing; /* WriteE2: clocks left, next address, latched bytes */
-    uint16_t crc_register;                            /* the CRC register */
-    uint8_t crc_mode;                                 /* ChannelRedundancy as CalcCRC read it */
-    uint8_t page, control, rx_last_bits, bit_framing; /* Page, Control, RxLastBits, BitFraming */
-    uint8_t key_loaded;                               /* 1 where the key buffer holds a key */
-    struct { uint8_t read, write; } ring;             /* FIFO positions: slot = position % 64, held = write - read, wrapped */
-    struct { uint8_t enables, requests; } interrupts; /* InterruptEn and InterruptRq */
-    uint8_t errors, command, sending, receiving;      /* ErrorFlag, Command, and 1 where the command sends or receives */
-} mfrc531_core;
+/* The active command, and how far it is: its code in bits 5-0; bit 6 set where WriteE2 has its address or the chip sends, bit 7 where it
+ * receives. A stage that is not listed is malformed. WriteE2 programs exactly while programming_left is above 0; its bit 6 means nothing then. */
+enum mfrc531_stage {
+    MFRC531_STAGE_IDLE = 0x00,
+    MFRC531_STAGE_WRITE_E2 = 0x01, /* waits for its address */
+    MFRC531_STAGE_READ_E2 = 0x03,
+    MFRC531_STAGE_LOAD_CONFIG = 0x07,
+    MFRC531_STAGE_LOAD_KEY_E2 = 0x0B,
+    MFRC531_STAGE_CALC_CRC = 0x12,
+    MFRC531_STAGE_LOAD_KEY = 0x19,
+    MFRC531_STAGE_WRITE_E2_ADDRESSED = 0x41, /* waits for data */
+    MFRC531_STAGE_TRANSMIT = 0x5A,
+    MFRC531_STAGE_TRANSCEIVE_SENDING = 0x5E,
+    MFRC531_STAGE_RECEIVE = 0x96,
+    MFRC531_STAGE_TRANSCEIVE_RECEIVING = 0x9E
+};
 
+/* A chip's whole state. Begin with mfrc531_start, which takes any memory. Read it freely; what you write into it is judged by the next call.
+ *
+ * The reserved fields are for later requests, so that these move nothing: no call looks at them, and a start leaves them 0. */
 typedef struct {
-    mfrc531_core core;
-    uint8_t slots[64];     /* of the FIFO */
-    uint8_t registers[32]; /* 10h-2Fh */
-    uint8_t latch[16];     /* the bytes that WriteE2 programs */
-    uint8_t key[6];        /* the key buffer, or zeros */
+    uint32_t timer_phase;      /* clocks since the latest timer step; 0 while the timer stands */
+    uint32_t programming_left; /* clocks until WriteE2's programming ends; 0 where none runs */
+    uint16_t crc_register;     /* the CRC register, before CRC3309 complements it */
+    uint16_t next_address;     /* where WriteE2's next byte goes */
+    uint16_t reserved_numbers[4];
+    uint8_t page;                  /* Page */
+    uint8_t control;               /* Control, of which bits 5 and 4 are kept */
+    uint8_t key_loaded;            /* 1 where the key buffer holds a key, else 0 */
+    uint8_t rx_last_bits;          /* RxLastBits of SecondaryStatus */
+    uint8_t interrupt_en;          /* InterruptEn */
+    uint8_t crc_mode;              /* ChannelRedundancy as the latest CalcCRC read it */
+    uint8_t interrupt_rq;          /* InterruptRq */
+    uint8_t error_flag;            /* ErrorFlag */
+    uint8_t timer_running;         /* TRunning, 1 or 0 */
+    uint8_t timer_prescaler;       /* TPreScaler as the timer's start read it; 0 while the timer stands */
+    uint8_t latched;               /* while WriteE2 programs: how many bytes of the latch, which go right before next_address */
+    uint8_t reserved_11;
+    uint8_t stage;                 /* one of enum mfrc531_stage */
+    uint8_t fifo_read, fifo_write; /* the FIFO's positions: slot = position % 64, held = write - read, wrapped to eight bits */
+    uint8_t timer_value;           /* TimerValue */
+    uint8_t bit_framing;           /* BitFraming */
+    uint8_t reserved_17[7];
+    uint8_t registers[32];         /* 10h-2Fh */
+    uint8_t slots[64];             /* of the FIFO */
+    uint8_t latch[16];             /* the bytes that WriteE2 programs */
+    uint8_t key[6];                /* the key buffer, or zeros */
     uint8_t eeprom[512];
 } mfrc531_chip;
 
@@ -76,13 +104,37 @@ typedef struct {
 #else
 #define MFRC531_ASSERT(test, text) _Static_assert(test, text)
 #endif
-MFRC531_ASSERT(sizeof(mfrc531_core) == 32 && offsetof(mfrc531_core, timer) == 0 && offsetof(mfrc531_core, writing) == 8 &&
-                   offsetof(mfrc531_core, crc_register) == 16 && offsetof(mfrc531_core, page) == 19 && offsetof(mfrc531_core, ring) == 24 &&
-                   offsetof(mfrc531_core, interrupts) == 26 && offsetof(mfrc531_core, errors) == 28 && offsetof(mfrc531_core, receiving) == 31,
-               "the layout of the core is the library's");
-MFRC531_ASSERT(sizeof(mfrc531_chip) == 664 && offsetof(mfrc531_chip, slots) == 32 && offsetof(mfrc531_chip, registers) == 96 &&
-                   offsetof(mfrc531_chip, latch) == 128 && offsetof(mfrc531_chip, key) == 144 && offsetof(mfrc531_chip, eeprom) == 150,
-               "the layout of the chip is the library's");
+#define MFRC531_AT(field, offset) MFRC531_ASSERT(offsetof(mfrc531_chip, field) == (offset), #field " lies where the library has it")
+MFRC531_ASSERT(sizeof(mfrc531_chip) == 676, "a chip is as large as the library has it");
+MFRC531_AT(timer_phase, 0);
+MFRC531_AT(programming_left, 4);
+MFRC531_AT(crc_register, 8);
+MFRC531_AT(next_address, 10);
+MFRC531_AT(reserved_numbers, 12);
+MFRC531_AT(page, 20);
+MFRC531_AT(control, 21);
+MFRC531_AT(key_loaded, 22);
+MFRC531_AT(rx_last_bits, 23);
+MFRC531_AT(interrupt_en, 24);
+MFRC531_AT(crc_mode, 25);
+MFRC531_AT(interrupt_rq, 26);
+MFRC531_AT(error_flag, 27);
+MFRC531_AT(timer_running, 28);
+MFRC531_AT(timer_prescaler, 29);
+MFRC531_AT(latched, 30);
+MFRC531_AT(reserved_11, 31);
+MFRC531_AT(stage, 32);
+MFRC531_AT(fifo_read, 33);
+MFRC531_AT(fifo_write, 34);
+MFRC531_AT(timer_value, 35);
+MFRC531_AT(bit_framing, 36);
+MFRC531_AT(reserved_17, 37);
+MFRC531_AT(registers, 44);
+MFRC531_AT(slots, 76);
+MFRC531_AT(latch, 140);
+MFRC531_AT(key, 156);
+MFRC531_AT(eeprom, 162);
+#undef MFRC531_AT
 
 /* ---- The six events ------------------------------------------------------------------------------------------------------------------ */
 

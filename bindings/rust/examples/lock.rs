@@ -71,7 +71,7 @@ fn main() -> Result<(), Box<dyn std::error::Error>> {
 
     println!("read at address 64                 {}", chip.read_at(64).unwrap_err());
     let mut memory = *chip.memory();
-    memory.core.command = 0x3E; // no command of the chip
-    println!("write on a chip with command 3E    {}", Chip::from_memory(memory).write(Register::FifoData, 0x55).unwrap_err());
+    memory.stage = 0x3E; // no command of the chip has this stage
+    println!("write on a chip with stage 3E      {}", Chip::from_memory(memory).write(Register::FifoData, 0x55).unwrap_err());
     Ok(())
 }

@@ -1,93 +1,136 @@
 //! A chip's state as it lies in memory: the library's own layout, which the compiler checks against the header's numbers.
-use std::mem::{offset_of, size_of};
+use std::mem::{align_of, offset_of, size_of};
 
-/// The FIFO's read and write positions: slot = position mod 64, held count = their wrapped difference.
+/// What [`ChipMemory::stage`] is: the active command's code in bits 5-0, and how far it is. Bit 6 is set where WriteE2 has its address or the
+/// chip sends, bit 7 where it receives. A stage that is not listed is malformed.
 #[allow(missing_docs)]
-#[derive(Clone, Copy, Debug, Default, PartialEq, Eq)]
-#[repr(C)]
-pub struct Ring {
-    pub read: u8,
-    pub write: u8,
-}
-
-/// TRunning, TimerValue, and the prescaler and phase that are kept while the timer runs.
-#[allow(missing_docs)]
-#[derive(Clone, Copy, Debug, Default, PartialEq, Eq)]
-#[repr(C)]
-pub struct Timer {
-    pub phase: u32,
-    pub prescaler: u16,
-    pub running: u8,
-    pub value: u8,
-}
-
-/// WriteE2: whether it has its address, where the next byte goes, how many bytes are latched, and the programming clocks left.
-#[allow(missing_docs)]
-#[derive(Clone, Copy, Debug, Default, PartialEq, Eq)]
-#[repr(C)]
-pub struct Writing {
-    pub left: u32,
-    pub next: u16,
-    pub addressed: u8,
-    pub latched: u8,
-}
-
-/// InterruptEn and InterruptRq.
-#[allow(missing_docs)]
-#[derive(Clone, Copy, Debug, Default, PartialEq, Eq)]
-#[repr(C)]
-pub struct Interrupts {
-    pub enables: u8,
-    pub requests: u8,
-}
-
-/// Everything but the arrays. `crc_register` is the CRC register, and `crc_mode` is ChannelRedundancy as the latest CalcCRC read it.
-#[allow(missing_docs)]
-#[derive(Clone, Copy, Debug, Default, PartialEq, Eq)]
-#[repr(C)]
-pub struct Core {
-    pub timer: Timer,
-    pub writing: Writing,
-    pub crc_register: u16,
-    pub crc_mode: u8,
-    pub page: u8,
-    pub control: u8,
-    pub rx_last_bits: u8,
-    pub bit_framing: u8,
-    pub key_loaded: u8,
-    pub ring: Ring,
-    pub interrupts: Interrupts,
-    pub errors: u8,
-    pub command: u8,
-    pub sending: u8,
-    pub receiving: u8,
+pub mod stage {
+    pub const IDLE: u8 = 0x00;
+    /// WriteE2 waits for its address.
+    pub const WRITE_E2: u8 = 0x01;
+    pub const READ_E2: u8 = 0x03;
+    pub const LOAD_CONFIG: u8 = 0x07;
+    pub const LOAD_KEY_E2: u8 = 0x0B;
+    pub const CALC_CRC: u8 = 0x12;
+    pub const LOAD_KEY: u8 = 0x19;
+    /// WriteE2 waits for data.
+    pub const WRITE_E2_ADDRESSED: u8 = 0x41;
+    pub const TRANSMIT: u8 = 0x5A;
+    pub const TRANSCEIVE_SENDING: u8 = 0x5E;
+    pub const RECEIVE: u8 = 0x96;
+    pub const TRANSCEIVE_RECEIVING: u8 = 0x9E;
 }
 
 /// A chip's whole state. Any values are a state of this type; which of them are a chip's is judged by each call.
-#[allow(missing_docs)]
+///
+/// The reserved fields are for later requests: no call looks at them, and a start leaves them 0.
 #[derive(Clone, Copy, Debug, PartialEq, Eq)]
 #[repr(C)]
 pub struct ChipMemory {
-    pub core: Core,
-    pub slots: [u8; 64],
+    /// Clocks since the latest timer step; 0 while the timer stands.
+    pub timer_phase: u32,
+    /// Clocks until WriteE2's programming ends. It programs exactly while this is above 0, and bit 6 of its stage means nothing then.
+    pub programming_left: u32,
+    /// The CRC register, before CRC3309 complements it.
+    pub crc_register: u16,
+    /// Where WriteE2's next byte goes.
+    pub next_address: u16,
+    #[allow(missing_docs)]
+    pub reserved_numbers: [u16; 4],
+    /// Page.
+    pub page: u8,
+    /// Control, of which bits 5 and 4 are kept.
+    pub control: u8,
+    /// 1 where the key buffer holds a key, else 0.
+    pub key_loaded: u8,
+    /// RxLastBits of SecondaryStatus.
+    pub rx_last_bits: u8,
+    /// InterruptEn.
+    pub interrupt_en: u8,
+    /// ChannelRedundancy as the latest CalcCRC read it.
+    pub crc_mode: u8,
+    /// InterruptRq.
+    pub interrupt_rq: u8,
+    /// ErrorFlag.
+    pub error_flag: u8,
+    /// TRunning, 1 or 0.
+    pub timer_running: u8,
+    /// TPreScaler as the timer's start read it; 0 while the timer stands.
+    pub timer_prescaler: u8,
+    /// While WriteE2 programs: how many bytes of the latch, which go right before `next_address`.
+    pub latched: u8,
+    #[allow(missing_docs)]
+    pub reserved_11: u8,
+    /// The active command and how far it is: one of [`stage`].
+    pub stage: u8,
+    /// The FIFO's read position: slot = position mod 64.
+    pub fifo_read: u8,
+    /// The FIFO's write position; the held count is their wrapped difference.
+    pub fifo_write: u8,
+    /// TimerValue.
+    pub timer_value: u8,
+    /// BitFraming.
+    pub bit_framing: u8,
+    #[allow(missing_docs)]
+    pub reserved_17: [u8; 7],
+    /// Registers 10h-2Fh.
     pub registers: [u8; 32],
+    /// The FIFO's slots.
+    pub slots: [u8; 64],
+    /// The bytes that WriteE2 programs.
     pub latch: [u8; 16],
+    /// The key buffer, or zeros.
     pub key: [u8; 6],
+    /// The EEPROM.
     pub eeprom: [u8; 512],
 }
 
 impl ChipMemory {
     /// All zeros.
     pub fn zeroed() -> ChipMemory {
-        ChipMemory { core: Core::default(), slots: [0; 64], registers: [0; 32], latch: [0; 16], key: [0; 6], eeprom: [0; 512] }
+        ChipMemory {
+            timer_phase: 0,
+            programming_left: 0,
+            crc_register: 0,
+            next_address: 0,
+            reserved_numbers: [0; 4],
+            page: 0,
+            control: 0,
+            key_loaded: 0,
+            rx_last_bits: 0,
+            interrupt_en: 0,
+            crc_mode: 0,
+            interrupt_rq: 0,
+            error_flag: 0,
+            timer_running: 0,
+            timer_prescaler: 0,
+            latched: 0,
+            reserved_11: 0,
+            stage: stage::IDLE,
+            fifo_read: 0,
+            fifo_write: 0,
+            timer_value: 0,
+            bit_framing: 0,
+            reserved_17: [0; 7],
+            registers: [0; 32],
+            slots: [0; 64],
+            latch: [0; 16],
+            key: [0; 6],
+            eeprom: [0; 512],
+        }
     }
 }
 
+macro_rules! at {
+    ($($field:ident $offset:literal),* $(,)?) => {
+        $(assert!(offset_of!(ChipMemory, $field) == $offset, stringify!($field));)*
+    };
+}
+
 const _: () = {
-    assert!(size_of::<Core>() == 32 && size_of::<ChipMemory>() == 664);
-    assert!(offset_of!(Core, timer) == 0 && offset_of!(Core, writing) == 8 && offset_of!(Core, crc_register) == 16);
-    assert!(offset_of!(Core, page) == 19 && offset_of!(Core, ring) == 24 && offset_of!(Core, interrupts) == 26);
-    assert!(offset_of!(Core, errors) == 28 && offset_of!(Core, receiving) == 31);
-    assert!(offset_of!(ChipMemory, slots) == 32 && offset_of!(ChipMemory, registers) == 96);
-    assert!(offset_of!(ChipMemory, latch) == 128 && offset_of!(ChipMemory, key) == 144 && offset_of!(ChipMemory, eeprom) == 150);
+    assert!(size_of::<ChipMemory>() == 676 && align_of::<ChipMemory>() == 4);
+    at!(timer_phase 0, programming_left 4, crc_register 8, next_address 10, reserved_numbers 12);
+    at!(page 20, control 21, key_loaded 22, rx_last_bits 23, interrupt_en 24, crc_mode 25, interrupt_rq 26, error_flag 27);
+    at!(timer_running 28, timer_prescaler 29, latched 30, reserved_11 31, stage 32, fifo_read 33, fifo_write 34, timer_value 35);
+    at!(bit_framing 36, reserved_17 37, registers 44, slots 76, latch 140, key 156, eeprom 162);
 };

@@ -23,7 +23,7 @@ pub fn start(chip: Chip, image: &[u8]) -> Outcome
     let mut latch = chip.latch;
     let mut key = chip.key;
     let mut eeprom = chip.eeprom;
-    let answer = event_image_start::start(
+    let started = event_image_start::start(
         &mut clocks,
         &mut numbers,
         &mut state,
@@ -46,7 +46,7 @@ pub fn start(chip: Chip, image: &[u8]) -> Outcome
     };
     Outcome {
         chip: next,
-        answer: answer,
+        answer: started,
     }
 }
 
@@ -62,7 +62,7 @@ pub fn host_read(chip: Chip, address: u8) -> Outcome
     let latch = chip.latch;
     let key = chip.key;
     let eeprom = chip.eeprom;
-    let answer = event_host_read::host_read(
+    let read = event_host_read::host_read(
         &clocks,
         &numbers,
         &mut state,
@@ -82,7 +82,7 @@ pub fn host_read(chip: Chip, address: u8) -> Outcome
     };
     Outcome {
         chip: next,
-        answer: answer,
+        answer: read,
     }
 }
 
@@ -98,7 +98,7 @@ pub fn host_write(chip: Chip, address: u8, v: u8) -> Outcome
     let mut latch = chip.latch;
     let mut key = chip.key;
     let eeprom = chip.eeprom;
-    let answer = event_host_write::host_write(
+    let written = event_host_write::host_write(
         &mut clocks,
         &mut numbers,
         &mut state,
@@ -122,7 +122,7 @@ pub fn host_write(chip: Chip, address: u8, v: u8) -> Outcome
     };
     Outcome {
         chip: next,
-        answer: answer,
+        answer: written,
     }
 }
 
@@ -138,7 +138,7 @@ pub fn advance(chip: Chip, by: u32) -> Outcome
     let mut latch = chip.latch;
     let key = chip.key;
     let mut eeprom = chip.eeprom;
-    let answer = event_clock_advance::advance(
+    let advanced = event_clock_advance::advance(
         &mut clocks,
         &mut numbers,
         &mut state,
@@ -161,7 +161,7 @@ pub fn advance(chip: Chip, by: u32) -> Outcome
     };
     Outcome {
         chip: next,
-        answer: answer,
+        answer: advanced,
     }
 }
 
@@ -177,7 +177,7 @@ pub fn take(chip: Chip, buffer: &mut [u8]) -> Outcome
     let latch = chip.latch;
     let key = chip.key;
     let eeprom = chip.eeprom;
-    let answer = event_frame_take::take(
+    let taken = event_frame_take::take(
         &mut clocks,
         &numbers,
         &mut state,
@@ -197,7 +197,7 @@ pub fn take(chip: Chip, buffer: &mut [u8]) -> Outcome
     };
     Outcome {
         chip: next,
-        answer: answer,
+        answer: taken,
     }
 }
 
@@ -213,7 +213,7 @@ pub fn deliver(chip: Chip, bytes: &[u8], parities: &[u8], last_bits: u8) -> Outc
     let latch = chip.latch;
     let key = chip.key;
     let eeprom = chip.eeprom;
-    let answer = event_frame_deliver::deliver(
+    let delivered = event_frame_deliver::deliver(
         &mut clocks,
         &numbers,
         &mut state,
@@ -235,6 +235,6 @@ pub fn deliver(chip: Chip, bytes: &[u8], parities: &[u8], last_bits: u8) -> Outc
     };
     Outcome {
         chip: next,
-        answer: answer,
+        answer: delivered,
     }
 }

@@ -3,7 +3,8 @@ ghost use mathlib.Core.List.{[]};
 ghost use Rattle.machine.specs.Refusals.{advance as Refusals·advance};
 ghost use Rattle.state.specs.Lent.{assembled};
 ghost use Rattle.state.specs.Meets.{Promises};
-use state_formed::judged;
+use state_formed::formed;
+use state_formed::quick;
 
 mod clock;
 mod programming;
@@ -28,8 +29,10 @@ pub fn advance<'a>(
         (now (slots .entry)) (now (latch .exit)) (now (key .entry)) (now (eeprom .exit)) in
         ⌜ Promises before (Refusals·advance by) after r [] ⌝ }
 {
-    if !judged(clocks, numbers, state) {
-        return 7;
+    if !quick(clocks, numbers, state) {
+        if !formed(clocks, numbers, state) {
+            return 7;
+        }
     }
     if by > 65_535 {
         return 3;

@@ -30,7 +30,7 @@ fn restarts(timer_clock: u8, reload: u8) -> bool
     (timer_clock / 32 % 2 == 1) & (reload != 0)
 }
 
-// One timer step of a timer that runs: the value falls, or at 1 TimerIRq is set and the timer stops, or restarts with TAutoRestart.
+// One timer step of a timer that runs: the value falls; from 1 on it raises TimerIRq, and stops, or begins again with TAutoRestart.
 fn timer_stepped(clocks: &mut [u32; 2], state: &mut [u8; 24], registers: &[u8; 32])
     ensures { λ r.
         let before = clocksStateRegisters (now (clocks .entry)) (now (state .entry)) (now (registers .entry)) in

@@ -12,7 +12,8 @@ use register_mapping::mapped;
 use registers::read;
 use state::PAGE;
 use state_fifo::fifo_read;
-use state_formed::judged;
+use state_formed::formed;
+use state_formed::quick;
 use status::primary_status;
 
 // A host read: refusals in their order, and the register's byte; a read of FIFOData removes it. Of the three arrays that are not lent nothing is read or
@@ -32,8 +33,10 @@ pub fn host_read<'a>(
         (now (registers .entry)) (now (slots .entry)) in
         ⌜ ((c : Chip) → Promises (before c) (hostRead address) (after c) r []) ⌝ }
 {
-    if !judged(clocks, numbers, state) {
-        return 7;
+    if !quick(clocks, numbers, state) {
+        if !formed(clocks, numbers, state) {
+            return 7;
+        }
     }
     if address >= 64 {
         return 1;

@@ -28,7 +28,8 @@ use state_fifo::alerted;
 use state_fifo::alerts_of;
 use state_fifo::fifo_written;
 use state_fifo::offered;
-use state_formed::judged;
+use state_formed::formed;
+use state_formed::quick;
 
 // A byte passes into CalcCRC's checksum, and TxIRq is set.
 fn checksum_fed(numbers: &mut [u16; 6], state: &mut [u8; 24], v: u8)
@@ -131,8 +132,10 @@ pub fn host_write<'a>(
         (now (slots .exit)) (now (latch .exit)) (now (key .exit)) (now (eeprom .entry)) in
         ⌜ Promises before (hostWrite address v) after r [] ⌝ }
 {
-    if !judged(clocks, numbers, state) {
-        return 7;
+    if !quick(clocks, numbers, state) {
+        if !formed(clocks, numbers, state) {
+            return 7;
+        }
     }
     if address >= 64 {
         return 1;

@@ -2,7 +2,8 @@
 -- the buffer lent. It says, for every input: refused, so the number, and chip and buffer exactly as before; else the answer, the next machine
 -- and every byte lent are what the definition gives, and the next chip is well formed again. What no definition decides is free where a call is
 -- accepted, and as before where it is refused: ring positions, slots beyond the held bytes, latch bytes beyond the count, the latched count where
--- WriteE2 is not active, WriteE2's next address before it has one (below 200h), and the elements that are kept for later fields.
+-- nothing is programmed, WriteE2's next address where it has none (below 200h), bit 6 of its stage while it programs, and the elements that are kept
+-- for later fields.
 -- Assumes nothing.
 use Prim.Native.Nat.{ℕ, suc, _+_, _*_}
 use mathlib.Core.Bool.{true, cond}

@@ -6,7 +6,7 @@ use mathlib.Core.Path.{_≡_, refl, sym, _∙_}
 use mathlib.Core.Bool.{Bool, true, false, cond, not, and-false, and-assoc, _&&_, _||_}
 use lib.Bits.{bitAnd, bitOr, and-le-l, and-le-r, or-add-and}
 use lib.Dec.{T, eqb, ltb, leb, leb·zero}
-use borrow.Author.Tests.{le-leb, leb-true, leb-false, ne-eqb, lt-ltb, le-ltb}
+use borrow.Author.Tests.{le-leb, leb-true, leb-false, eqb-true, eqb-false, eq-eqb, ne-eqb, lt-ltb, le-ltb}
 use Rattle.bits.specs.Bits.{bit}
 use Rattle.bits.proofs.Below.{all, each, agree}
 use Rattle.crc.specs.Checksum.{CRC8}
@@ -22,6 +22,11 @@ joined p q = rw (p, q)
 pub joined-if : {a : Bool} (b s t : Bool) → a ≡ s → (s ≡ true → b ≡ t) → (a && b) ≡ (s && t)
 joined-if b true t p q = joined p (q refl)
 joined-if b false t p q = rw p
+
+-- The first two of three are exchanged.
+pub and-left-comm : (a b c : Bool) → (a && (b && c)) ≡ (b && (a && c))
+and-left-comm true b c = refl
+and-left-comm false b c = sym (and-false b)
 
 -- Two tests that agree at each byte, from one test that the checker computes.
 abbrev same : Bool → Bool → Bool
@@ -56,8 +61,8 @@ control-bits = alike (λ x. eqb (bitAnd x 0xCF) 0) (λ x. eqb (x % 16) 0 && eqb 
 last-bits : (x : ℕ) → x < 256 → eqb (bitAnd x 0xF8) 0 ≡ ltb x 8
 last-bits = alike (λ x. eqb (bitAnd x 0xF8) 0) (λ x. ltb x 8) tt
 
-pub mode-bit : (x : ℕ) → x < 256 → CRC8 x ≡ not (eqb (bitAnd x 0x10) 0)
-mode-bit = alike CRC8 (λ x. not (eqb (bitAnd x 0x10) 0)) tt
+pub mode-bit : (x : ℕ) → x < 256 → eqb (bitAnd x 0x10) 0 ≡ not (CRC8 x)
+mode-bit = alike (λ x. eqb (bitAnd x 0x10) 0) (λ x. not (CRC8 x)) tt
 
 pub bits-judged : (page control last : ℕ) → page < 256 → control < 256 → last < 256 →
     (eqb (bitAnd page 0x78) 0 && (eqb (bitAnd control 0xCF) 0 && eqb (bitAnd last 0xF8) 0)) ≡ bitsFormed page control last
@@ -73,9 +78,21 @@ where-set zero t h = refl
 where-set (suc zero) t h = refl
 where-set (suc (suc b)) t h = absurd (omega arith)
 
--- Two numbers of which the or is 0.
-pub or-none : (a b : ℕ) → bitOr a b ≡ 0 → (a ≡ 0) × (b ≡ 0)
-or-none a b h = let sum = or-add-and a b in let low = and-le-r a b in let lower = and-le-l a b in (omega arith, omega arith)
+-- A number that is 0 exactly where two are, and the or of two is such a number.
+pub none-of : (a b n : ℕ) → (n ≡ 0 → (a ≡ 0) × (b ≡ 0)) → (a ≡ 0 → b ≡ 0 → n ≡ 0) → eqb n 0 ≡ (eqb a 0 && eqb b 0)
+none-of a b n only where-both = go (eqb a 0) (eqb b 0) refl refl
+  where
+    go : (s t : Bool) → eqb a 0 ≡ s → eqb b 0 ≡ t → eqb n 0 ≡ (s && t)
+    go true true p q = eq-eqb n 0 (where-both (eqb-true a 0 p) (eqb-true b 0 q))
+    go true false p q = ne-eqb n 0 (λ e. eqb-false b 0 q (only e .1))
+    go false t p q = ne-eqb n 0 (λ e. eqb-false a 0 p (only e .0))
+
+pub or-none : (a b : ℕ) → eqb (bitOr a b) 0 ≡ (eqb a 0 && eqb b 0)
+or-none a b =
+    let sum = or-add-and a b in
+    let low = and-le-r a b in
+    let lower = and-le-l a b in
+    none-of a b (bitOr a b) (λ h. (omega (arith, h), omega (arith, h))) (λ h k. omega (arith, h, k))
 
 -- A timer's tests without a choice, for a flag that is 0 or 1. A prescaler that is kept is below 32.
 abbrev clocks : ℕ → ℕ

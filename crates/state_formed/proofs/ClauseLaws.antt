@@ -1,25 +1,27 @@
 -- The clauses of refusal 7, as the code judges them, are the specification's.
 -- Assumes nothing.
-use Prim.Native.Nat.{ℕ, _+_, _%_, _<_}
+use Prim.Native.Nat.{ℕ, _+_, _%_}
 use native.Mathlib.Omega.{arith}
 use mathlib.Core.Path.{_≡_, refl, sym, ap, _∙_}
-use mathlib.Core.Bool.{Bool, true, false, cond, not, Bool·beq, and-true, and-false, and-comm, and-assoc, false≢true, _&&_}
+use mathlib.Core.Bool.{Bool, true, false, cond, not, Bool·beq, and-true, and-comm, and-assoc, false≢true, _&&_}
 use mathlib.Core.List.{List}
 use lib.Dec.{ltb, leb, eqb}
 use lib.ListN.{length, take}
 use lib.Seq.{length-take-le}
-use borrow.Author.Tests.{lt-ltb, le-ltb, leb-true, eqb-true, eqb-false, le-leb}
+use borrow.Author.Tests.{lt-ltb, le-ltb, leb-true, eqb-true, eqb-false, le-leb, not-true}
+use Rattle.crc.specs.Checksum.{CRC8}
 use Rattle.machine.specs.State.{Writing, addressing, ready, programming}
 use Rattle.machine.specs.Memory.{programmingClocks}
 use Rattle.machine.specs.WellFormed.{wellFormed, timerFormed, writingFormed, commandFormed, checksumFormed, bitsFormed, waits}
 use Rattle.machine.proofs.WellFormed.Parts.{by-cond, both, each}
 use Rattle.state.specs.View.{Core, core, view, viewOf, writingOf, commandOf, batchStart, heldOf, heldCount}
 use Rattle.state.specs.Formed.{listed, writes, batchFits, agree, isFlag, byteFormed, fieldsFormed, chipFormed}
+use Rattle.state.specs.Turns.{Sizes}
 use Rattle.state.specs.declared.Chip.{Chip}
 use Rattle.state.proofs.RingLaws.{held-length}
 use Rattle.state.proofs.StageLaws.{Other, by-stage}
-use Rattle.state_formed.specs.Judged.{flagsFormed, timerFieldsFormed, programmingFormed, stageRoom, roomOf, Clear, Rests}
-use Rattle.state_formed.proofs.ByteLaws.{joined-if, waiting}
+use Rattle.state_formed.specs.Judged.{flagsFormed, timerFieldsFormed, programmingFormed, stageRoom, roomOf, firstClear, restsWith, usual}
+use Rattle.state_formed.proofs.ByteLaws.{joined-if, and-left-comm, below, waiting}
 
 -- `==` of two tests, as the code has it.
 pub same-tests : (a b : Bool) → Bool·beq a b ≡ agree a b
@@ -105,10 +107,6 @@ module _ (k : Core) (latch : List ℕ) where
         rests-with (λ some. programs-with some (each (writes (k .stage)) _ (some-due (k .left) _ agrees some) .0))
 
 -- All clauses in the code's order.
-and-left-comm : (a b c : Bool) → (a && (b && c)) ≡ (b && (a && c))
-and-left-comm true b c = refl
-and-left-comm false b c = sym (and-false b)
-
 reordered : (l w f8 f7 f6 f4 f2 q t m p k z : Bool) →
     (((l && w) && (f8 && (f7 && (f6 && (f4 && (f2 && true)))))) && (q && (t && (m && (p && (k && z))))))
     ≡ ((f7 && (f6 && (f4 && f2))) && (z && ((f8 && t) && (k && ((w && m) && (l && (q && p)))))))
@@ -142,19 +140,39 @@ clauses c sixteen =
     (λ h. sym (rooms k (c .latch) n (each clocked near (each (leb (k .left) programmingClocks) _ h .1) .0))
     ∙ ap (λ (j : ℕ). ltb j (roomOf (k .stage) (k .left))) (held-length (c .slots) (k .read) (heldCount (k .read) (k .write)))))
 
--- What the quick test asks is enough.
-pub quickly : (c : Chip) (n : ℕ) → length (c .latch) ≡ 16 →
+-- Idle or CalcCRC programs nothing, and holds no more bytes than may wait.
+stage-rests : (stage n : ℕ) → restsWith stage n ≡ true → (writes stage ≡ false) × (ltb n (stageRoom stage) ≡ true)
+stage-rests stage n = by-cond (λ (t : Bool). t ≡ true → (writes stage ≡ false) × (ltb n (stageRoom stage) ≡ true)) (eqb stage 0x00) (leb n 64) _ idle (λ other. summing)
+  where
+    idle : eqb stage 0x00 ≡ true → leb n 64 ≡ true → (writes stage ≡ false) × (ltb n (stageRoom stage) ≡ true)
+    idle is few = let s = eqb-true stage 0x00 is in (ap writes s, ap (λ (j : ℕ). ltb n (stageRoom j)) s ∙ below n 64 ∙ few)
+
+    summing : (eqb stage 0x12 && eqb n 0) ≡ true → (writes stage ≡ false) × (ltb n (stageRoom stage) ≡ true)
+    summing is =
+        let (at-sum, none) = each (eqb stage 0x12) (eqb n 0) is in
+        let s = eqb-true stage 0x12 at-sum in
+        (ap writes s, ap (λ (j : ℕ). ltb n (stageRoom j)) s ∙ ap (λ (j : ℕ). ltb j 1) (eqb-true n 0 none))
+
+-- A state that a host meets most of the time is well formed.
+pub usual-formed : (c : Chip) → Sizes c → usual (core c) ≡ true → chipFormed c ≡ true
+usual-formed c sizes is =
     let k = core c in
-    Clear (k .page) (k .control) (k .keyLoaded) (k .rxLastBits) (k .enables) (k .crcMode) (k .requests) (k .errors) → k .left ≡ 0 → k .next < 0x200 → Rests (k .stage) n →
-    n ≡ heldCount (k .read) (k .write) → timerFieldsFormed (k .running) (k .value) (k .prescaler) (k .phase) ≡ true → chipFormed c ≡ true
-quickly c n sixteen clear none near rests count timer =
-    let k = core c in
-    clauses c sixteen
-    ∙ both (clear .flags)
-    (both (clear .bits)
+    let n = heldCount (k .read) (k .write) in
+    let first = firstClear (k .page) (k .control) (k .keyLoaded) (k .rxLastBits) (k .enables) (k .crcMode) (k .requests) (k .errors) in
+    let (calm, h₁) = each (first && eqb (k .left) 0) _ is in
+    let (clear, unclocked) = each first _ calm in
+    let (bits, h₂) = each (bitsFormed (k .page) (k .control) (k .rxLastBits)) _ clear in
+    let (flags, narrow) = each (flagsFormed (k .keyLoaded) (k .enables) (k .requests) (k .errors)) _ h₂ in
+    let (near, h₃) = each (ltb (k .next) 0x200) _ h₁ in
+    let (rests, timer) = each (restsWith (k .stage) n) _ h₃ in
+    let (other, room) = stage-rests (k .stage) n rests in
+    let none = eqb-true (k .left) 0 unclocked in
+    clauses c (sizes .latch-count)
+    ∙ both flags
+    (both bits
     (both timer
-    (both (ap (λ (b : Bool). cond b (ltb (k .crcRegister) 0x100) true) (clear .wide))
+    (both (ap (λ (b : Bool). cond b (ltb (k .crcRegister) 0x100) true) (not-true (CRC8 (k .crcMode)) narrow))
     (both
     (ap (λ (j : ℕ). leb j programmingClocks && (agree (ltb 0 j) (writes (k .stage) && batchFits (k .next) (k .latched)) && ltb (k .next) 0x200)) none
-    ∙ both (ap (λ (b : Bool). not (b && batchFits (k .next) (k .latched))) (rests .other)) (lt-ltb (k .next) 0x200 near))
-    (ap (λ (j : ℕ). ltb (heldCount (k .read) (k .write)) (roomOf (k .stage) j)) none ∙ ap (λ (j : ℕ). ltb j (stageRoom (k .stage))) (sym count) ∙ rests .room)))))
+    ∙ both (ap (λ (b : Bool). not (b && batchFits (k .next) (k .latched))) other) near)
+    (ap (λ (j : ℕ). ltb n (roomOf (k .stage) j)) none ∙ room)))))

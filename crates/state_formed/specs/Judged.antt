@@ -1,16 +1,20 @@
 -- What the code judges: a chip, and its clauses as tests of numbers by value.
 -- Assumes nothing.
 use Prim.Native.Nat.{ℕ}
-use mathlib.Core.Bool.{Bool, true, false, cond, _&&_}
+use mathlib.Core.Bool.{Bool, cond, not, _&&_}
 use mathlib.Core.Path.{_≡_}
 use lib.Dec.{ltb, leb, eqb}
 use Rattle.crc.specs.Checksum.{CRC8}
 use Rattle.machine.specs.Memory.{programmingClocks}
 use Rattle.machine.specs.WellFormed.{timerFormed, bitsFormed}
-use Rattle.state.specs.View.{isSet}
+use Rattle.state.specs.View.{Core, core, isSet, heldCount}
 use Rattle.state.specs.Formed.{writes, batchFits, agree, isFlag, byteFormed, chipFormed}
 use Rattle.state.specs.Turns.{Sizes}
 use Rattle.state.specs.declared.Chip.{Chip}
+
+-- A function that reads fields: its answer is what a definition gives of them, whatever the arrays are that it is not lent.
+abbrev pub ReadsFields : (Core → Bool) → (Chip → Chip) → Bool → Type 0
+ReadsFields f lent r = (c : Chip) → r ≡ f (core (lent c))
 
 -- A function that judges: its answer is whether the chip is well formed, whatever the arrays are that it is not lent. A contract doesn't see how long
 -- a lent array is, so this takes it from the caller.
@@ -26,7 +30,7 @@ abbrev pub timerFieldsFormed : ℕ → ℕ → ℕ → ℕ → Bool
 timerFieldsFormed running value prescaler phase =
     isFlag running && timerFormed (record { running = isSet running; value = value; prescaler = prescaler; phase = phase })
 
--- "programming clocks left are 0 to 78,648, above 0 exactly when 1 to 16 latched bytes wait .. and WriteE2 is active"; "the next address is below 200h".
+-- The clauses of `stageFormed` (state, Formed) but for the stage itself, and the most clocks that may be left.
 abbrev pub programmingFormed : ℕ → ℕ → ℕ → ℕ → Bool
 programmingFormed stage latched left next =
     leb left programmingClocks && (agree (ltb 0 left) (writes stage && batchFits next latched) && ltb next 0x200)
@@ -53,12 +57,18 @@ abbrev pub roomOf : ℕ → ℕ → ℕ
 roomOf stage left = cond (eqb left 0) (stageRoom stage) 65
 
 -- The first eight bytes of state have 0 where they always read 0, and CRC8 is 0.
-pub record Clear (page control loaded last enables mode requests errors : ℕ) : Type 0 where
-  pub bits : bitsFormed page control last ≡ true
-  pub flags : flagsFormed loaded enables requests errors ≡ true
-  pub wide : CRC8 mode ≡ false
+abbrev pub firstClear : ℕ → ℕ → ℕ → ℕ → ℕ → ℕ → ℕ → ℕ → Bool
+firstClear page control loaded last enables mode requests errors =
+    bitsFormed page control last && (flagsFormed loaded enables requests errors && not (CRC8 mode))
 
--- A stage of no WriteE2, with no more bytes held than may wait.
-pub record Rests (stage count : ℕ) : Type 0 where
-  pub room : ltb count (stageRoom stage) ≡ true
-  pub other : writes stage ≡ false
+-- Idle with at most 64 bytes held, or CalcCRC with none.
+abbrev pub restsWith : ℕ → ℕ → Bool
+restsWith stage count = cond (eqb stage 0x00) (leb count 64) (eqb stage 0x12 && eqb count 0)
+
+-- The states that a host meets most of the time: every bit of the first eight bytes that always reads 0 is 0 and CRC8 is 0, no programming clocks are
+-- left, the next address is below 200h, Idle holds at most 64 bytes or CalcCRC none, and the timer is formed.
+abbrev pub usual : Core → Bool
+usual k =
+    (firstClear (k .page) (k .control) (k .keyLoaded) (k .rxLastBits) (k .enables) (k .crcMode) (k .requests) (k .errors) && eqb (k .left) 0)
+    && (ltb (k .next) 0x200
+    && (restsWith (k .stage) (heldCount (k .read) (k .write)) && timerFieldsFormed (k .running) (k .value) (k .prescaler) (k .phase)))

@@ -1,14 +1,18 @@
 // Whether a chip is well formed: refusal 7. Clocks, numbers and bytes of state decide it; the other arrays have their sizes by their types.
 //
-// Every call of the chip judges it first. `quick` passes most states that a host meets, by a few tests; `formed` judges every clause, and `judged`
-// asks them one after the other. That an element is a byte is known where it is passed by value, so each clause is a function of bytes by value.
+// Every call of the chip judges it first. `quick` passes the states that a host meets most of the time, by a few tests; `formed` judges every clause.
+// A host access and a clock advance ask `quick` themselves, and `formed` where that does not pass: a function of both would be too long for the compiler
+// to put into them, and would save registers at each call.
+//
+// That an element is a byte is known where it is passed by value, so each clause is a function of bytes by value.
 // Tests are joined by `&` and `|`: to a proof these are the specification's own `&&` and `||`.
 ghost use Prim.Native.Nat.{_+_, _*_, _^_};
-ghost use mathlib.Core.Bool.{true};
+ghost use mathlib.Core.Bool.{_&&_};
 ghost use mathlib.Core.Path.{_≡_};
+ghost use lib.Dec.{eqb};
 ghost use Rattle.machine.specs.WellFormed.{checksumFormed, bitsFormed};
 ghost use Rattle.state.specs.Lent.{clocksNumbersState};
-ghost use Rattle.state_formed.specs.Judged.{Judges, flagsFormed, timerFieldsFormed, programmingFormed, roomOf, Clear, Rests};
+ghost use Rattle.state_formed.specs.Judged.{ReadsFields, Judges, flagsFormed, timerFieldsFormed, programmingFormed, roomOf, firstClear, restsWith, usual};
 use state::CONTROL;
 use state::CRC_MODE;
 use state::CRC_REGISTER;
@@ -49,21 +53,21 @@ fn eight(high: u32, low: u32) -> u64
 
 // Of the first eight bytes of state, as one word, the bits that always read 0, and CRC8.
 fn word(a: u8, b: u8, c: u8, d: u8, e: u8, f: u8, g: u8, h: u8) -> u64
-    ensures { λ r. ⌜ (r ≡ 0 → Clear a b c d e f g h) ⌝ }
+    ensures { λ r. ⌜ eqb r 0 ≡ firstClear a b c d e f g h ⌝ }
 {
     eight(quad(pair(h, g), pair(f, e)), quad(pair(d, c), pair(b, a))) & 0x85C0_10C0_F8FE_CF78
 }
 
 // 0 where neither such a bit is set nor programming clocks are left.
 fn both(word: u64, left: u32) -> u64
-    ensures { λ r. ⌜ (r ≡ 0 → (word ≡ 0) × (left ≡ 0)) ⌝ }
+    ensures { λ r. ⌜ eqb r 0 ≡ (eqb word 0 && eqb left 0) ⌝ }
 {
     word | left as u64
 }
 
 // Idle or CalcCRC, with no more bytes than may wait.
 fn rests(stage: u8, count: u8) -> bool
-    ensures { λ r. ⌜ (r ≡ true → Rests stage count) ⌝ }
+    ensures { λ r. ⌜ r ≡ restsWith stage count ⌝ }
 {
     if stage == 0x00 {
         return count <= 64;
@@ -93,11 +97,11 @@ fn timer_kept(running: u8, value: u8, prescaler: u8, phase: u32) -> bool
     timer_formed(running, value, prescaler, phase)
 }
 
-// Most states that a host meets: Idle or CalcCRC rests, nothing is programmed, every bit that always reads 0 is 0, and CRC8 is 0.
-fn quick(clocks: &[u32; 2], numbers: &[u16; 6], state: &[u8; 24]) -> bool
+// The states that a host meets most of the time: Idle or CalcCRC rests, nothing is programmed, every bit that always reads 0 is 0, and CRC8 is 0.
+pub fn quick(clocks: &[u32; 2], numbers: &[u16; 6], state: &[u8; 24]) -> bool
     ensures { λ r.
         let lent = clocksNumbersState (now (clocks .entry)) (now (numbers .entry)) (now (state .entry)) in
-        ⌜ (r ≡ true → Judges lent r) ⌝ }
+        ⌜ ReadsFields usual lent r ⌝ }
 {
     let bits = word(
         state[PAGE],
@@ -147,7 +151,7 @@ fn checksum_formed(register: u16, mode: u8) -> bool
     (mode / 16 % 2 == 0) | (register < 0x100)
 }
 
-// At most 78,648 programming clocks are left, and some exactly where WriteE2 is active and 1 to 16 latched bytes wait inside one block at 010h or above;
+// At most 78,648 programming clocks are left, and some exactly where WriteE2 is active and its latched bytes, 1 to 16, fit a block that may be written;
 // the next address is below 200h. The latched count of another command is not judged.
 fn writing_formed(stage: u8, latched: u8, left: u32, next: u16) -> bool
     ensures { λ r. ⌜ r ≡ programmingFormed stage latched left next ⌝ }
@@ -206,16 +210,4 @@ pub fn formed(clocks: &[u32; 2], numbers: &[u16; 6], state: &[u8; 24]) -> bool
     let writing = writing_formed(state[STAGE], state[LATCHED], clocks[LEFT], numbers[NEXT]);
     let fits = held(state) < room(state[STAGE], clocks[LEFT]);
     flags & (bits & (timer & (checksum & (writing & fits))))
-}
-
-// Refusal 7, exactly: the quick test first, and every clause where that does not pass.
-pub fn judged(clocks: &[u32; 2], numbers: &[u16; 6], state: &[u8; 24]) -> bool
-    ensures { λ r.
-        let lent = clocksNumbersState (now (clocks .entry)) (now (numbers .entry)) (now (state .entry)) in
-        ⌜ Judges lent r ⌝ }
-{
-    if quick(clocks, numbers, state) {
-        return true;
-    }
-    formed(clocks, numbers, state)
 }

@@ -1,6 +1,6 @@
 //! A call as the lists have it, in a form that a person can read, write and repeat.
 
-use crate::chip_memory::{place_name, Memory, SIZE};
+use crate::chip_memory::{place_name, places_of, Memory, SIZE};
 use crate::plain::stored_nibble;
 use crate::random::Random;
 use std::fmt;
@@ -102,7 +102,8 @@ pub enum Call {
         parities: Vec<u8>,
         last_bits: u8,
     },
-    /// Bytes of the library's chip are written; the plain chip is made anew from what stands there, or is malformed.
+    /// Bytes of the library's chip are written, each at its place; the plain chip is made anew from what stands there, or is malformed. In a
+    /// list a place has a name: `stage=41`, `next_address=1FF`, `registers[29h]=08`.
     Corrupt {
         edits: Vec<(u16, u8)>,
     },
@@ -128,7 +129,7 @@ impl fmt::Display for Call {
             Call::Deliver { bytes, parities, last_bits } => write!(out, "deliver {} {} {last_bits}", Hex(bytes), Hex(parities)),
             Call::Corrupt { edits } => {
                 write!(out, "corrupt")?;
-                edits.iter().try_for_each(|(place, byte)| write!(out, " {place}={byte:02X}"))
+                edits.iter().try_for_each(|(place, byte)| write!(out, " {}={byte:02X}", place_name(usize::from(*place))))
             }
             Call::Mend => write!(out, "mend"),
         }
@@ -142,11 +143,6 @@ impl Call {
             Call::Start { image } => {
                 let bytes = image.bytes();
                 Some(format!("bytes 010h-02Fh: {}", Hex(bytes.get(0x10..0x30)?)))
-            }
-            Call::Corrupt { edits } => {
-                let names: Vec<String> =
-                    edits.iter().map(|(place, byte)| format!("{} := {byte:02X}h", place_name(usize::from(*place)))).collect();
-                Some(names.join(", "))
             }
             _ => None,
         }
@@ -216,12 +212,19 @@ fn parse_line(words: &[&str], list: &mut List) -> Option<()> {
             Call::Deliver { bytes: parse_hex(bytes)?, parities: parse_hex(parities)?, last_bits: last_bits.parse().ok()? }
         }
         ["corrupt", edits @ ..] => {
-            let edit = |word: &&str| {
-                let (place, value) = word.split_once('=')?;
-                let place: u16 = place.parse().ok().filter(|place| usize::from(*place) < SIZE)?;
-                Some((place, byte(value)?))
-            };
-            Call::Corrupt { edits: edits.iter().map(edit).collect::<Option<_>>()? }
+            let mut parsed = Vec::new();
+            for word in edits {
+                let (name, value) = word.split_once('=')?;
+                let places = places_of(name)?;
+                let value = u64::from_str_radix(value, 16).ok()?;
+                // A field of several bytes has its low byte first.
+                let mut bytes = value.to_le_bytes().into_iter().chain(std::iter::repeat(0));
+                if places.len() < 8 && value >> (8 * places.len()) != 0 {
+                    return None;
+                }
+                parsed.extend(places.map(|place| (place as u16, bytes.next().unwrap_or(0))));
+            }
+            Call::Corrupt { edits: parsed }
         }
         ["mend"] => Call::Mend,
         _ => return None,

@@ -4,81 +4,62 @@
 use crate::plain::{error, fault, request, Checksum, Command, FaultyChip, Fifo, Run, Timer, Writing, PROGRAMMING_CLOCKS};
 use std::mem::{align_of, offset_of, size_of};
 
-#[derive(Clone, Copy)]
-#[repr(C)]
-pub struct RingMemory {
-    pub read: u8,
-    pub write: u8,
+/// The chip in memory, and its fields by name, with the place and the length of each. The places are asserted.
+macro_rules! layout {
+    ($($place:literal $name:ident: $type:ty,)*) => {
+        #[derive(Clone, Copy)]
+        #[repr(C)]
+        pub struct ChipMemory {
+            $(pub $name: $type,)*
+        }
+
+        /// Name, place and length of each field. What no field covers is padding.
+        pub const FIELDS: &[(&str, usize, usize)] = &[$((stringify!($name), $place, size_of::<$type>())),*];
+
+        const _: () = {
+            $(assert!(offset_of!(ChipMemory, $name) == $place, stringify!($name));)*
+        };
+    };
 }
 
-#[derive(Clone, Copy)]
-#[repr(C)]
-pub struct TimerMemory {
-    pub phase: u32,
-    pub prescaler: u16,
-    pub running: u8,
-    pub value: u8,
-}
-
-#[derive(Clone, Copy)]
-#[repr(C)]
-pub struct WritingMemory {
-    pub left: u32,
-    pub next: u16,
-    pub addressed: u8,
-    pub latched: u8,
-}
-
-#[derive(Clone, Copy)]
-#[repr(C)]
-pub struct InterruptsMemory {
-    pub enables: u8,
-    pub requests: u8,
-}
-
-#[derive(Clone, Copy)]
-#[repr(C)]
-pub struct CoreMemory {
-    pub timer: TimerMemory,
-    pub writing: WritingMemory,
-    pub crc_register: u16,
-    pub crc_mode: u8,
-    pub page: u8,
-    pub control: u8,
-    pub rx_last_bits: u8,
-    pub bit_framing: u8,
-    pub key_loaded: u8,
-    pub ring: RingMemory,
-    pub interrupts: InterruptsMemory,
-    pub errors: u8,
-    pub command: u8,
-    pub sending: u8,
-    pub receiving: u8,
-}
-
-#[derive(Clone, Copy)]
-#[repr(C)]
-pub struct ChipMemory {
-    pub core: CoreMemory,
-    pub slots: [u8; 64],
-    pub registers: [u8; 32],
-    pub latch: [u8; 16],
-    pub key: [u8; 6],
-    pub eeprom: [u8; 512],
+layout! {
+    0 timer_phase: u32,
+    4 programming_left: u32,
+    8 crc_register: u16,
+    10 next_address: u16,
+    12 reserved_numbers: [u16; 4],
+    20 page: u8,
+    21 control: u8,
+    22 key_loaded: u8,
+    23 rx_last_bits: u8,
+    24 interrupt_en: u8,
+    25 crc_mode: u8,
+    26 interrupt_rq: u8,
+    27 error_flag: u8,
+    28 timer_running: u8,
+    29 timer_prescaler: u8,
+    30 latched: u8,
+    31 reserved_11: u8,
+    32 stage: u8,
+    33 fifo_read: u8,
+    34 fifo_write: u8,
+    35 timer_value: u8,
+    36 bit_framing: u8,
+    37 reserved_17: [u8; 7],
+    44 registers: [u8; 32],
+    76 slots: [u8; 64],
+    140 latch: [u8; 16],
+    156 key: [u8; 6],
+    162 eeprom: [u8; 512],
 }
 
 /// Bytes of a chip.
-pub const SIZE: usize = 664;
+pub const SIZE: usize = 676;
 
-// The same assertions as in the header.
-const _: () = {
-    assert!(size_of::<CoreMemory>() == 32 && size_of::<ChipMemory>() == SIZE && align_of::<ChipMemory>() == 4);
-    assert!(offset_of!(CoreMemory, timer) == 0 && offset_of!(CoreMemory, writing) == 8 && offset_of!(CoreMemory, crc_register) == 16);
-    assert!(offset_of!(CoreMemory, page) == 19 && offset_of!(CoreMemory, ring) == 24 && offset_of!(CoreMemory, interrupts) == 26);
-    assert!(offset_of!(CoreMemory, errors) == 28 && offset_of!(CoreMemory, receiving) == 31);
-    assert!(offset_of!(ChipMemory, slots) == 32 && offset_of!(ChipMemory, registers) == 96 && offset_of!(ChipMemory, latch) == 128);
-    assert!(offset_of!(ChipMemory, key) == 144 && offset_of!(ChipMemory, eeprom) == 150);
-};
+/// Where the arrays of bytes begin: registers, slots, latch, key and EEPROM, of which any bytes are well formed.
+pub const ARRAYS: usize = offset_of!(ChipMemory, registers);
+
+const _: () = assert!(size_of::<ChipMemory>() == SIZE && align_of::<ChipMemory>() == 4);
 
 /// Memory for a chip, as bytes: padding included, so that it can be filled, kept and compared whole.
 #[derive(Clone, Copy, PartialEq, Eq)]
@@ -92,136 +73,180 @@ impl Memory {
         unsafe { &*self.0.as_ptr().cast::<ChipMemory>() }
     }
 
+    pub fn chip_mut(&mut self) -> &mut ChipMemory {
+        // SAFETY: as above, and the reference is the only one.
+        unsafe { &mut *self.as_mut_ptr() }
+    }
+
     pub fn as_mut_ptr(&mut self) -> *mut ChipMemory {
         self.0.as_mut_ptr().cast()
     }
 }
 
-/// The fields of the core with their places, for messages and for directed corruption. What no field covers is padding.
-pub const FIELDS: [(&str, usize, usize); 23] = [
-    ("timer.phase", 0, 4),
-    ("timer.prescaler", 4, 2),
-    ("timer.running", 6, 1),
-    ("timer.value", 7, 1),
-    ("writing.left", 8, 4),
-    ("writing.next", 12, 2),
-    ("writing.addressed", 14, 1),
-    ("writing.latched", 15, 1),
-    ("crc_register", 16, 2),
-    ("crc_mode", 18, 1),
-    ("page", 19, 1),
-    ("control", 20, 1),
-    ("rx_last_bits", 21, 1),
-    ("bit_framing", 22, 1),
-    ("key_loaded", 23, 1),
-    ("ring.read", 24, 1),
-    ("ring.write", 25, 1),
-    ("interrupts.enables", 26, 1),
-    ("interrupts.requests", 27, 1),
-    ("errors", 28, 1),
-    ("command", 29, 1),
-    ("sending", 30, 1),
-    ("receiving", 31, 1),
-];
+// ---- Places by name --------------------------------------------------------------------------------------------------------------------
 
-/// What a byte of the chip's memory belongs to, as a person reads it.
-pub fn place_name(offset: usize) -> String {
-    let arrays = [("eeprom", 150, 0), ("key", 144, 0), ("latch", 128, 0), ("registers", 96, 0x10), ("slots", 32, 0)];
-    if let Some((name, start, first)) = arrays.iter().find(|(_, start, _)| offset >= *start) {
-        return format!("{name}[{:02X}h]", offset - start + first);
+/// Place and length of a field.
+pub fn field(name: &str) -> Option<(usize, usize)> {
+    FIELDS.iter().find(|(known, ..)| *known == name).map(|(_, start, length)| (*start, *length))
+}
+
+/// The number of a field's first byte, as its name has it: registers begin with 10h.
+fn first_of(name: &str) -> usize {
+    if name == "registers" {
+        0x10
+    } else {
+        0
     }
-    match FIELDS.iter().find(|(_, start, length)| (*start..start + length).contains(&offset)) {
+}
+
+/// A byte of the chip's memory by name: `stage`, `next_address+1`, `registers[29h]`, `padding+0`.
+pub fn place_name(place: usize) -> String {
+    match FIELDS.iter().find(|(_, start, length)| (*start..start + length).contains(&place)) {
         Some((name, _, 1)) => (*name).to_string(),
-        Some((name, start, _)) => format!("{name}, byte {}", offset - start),
-        None => format!("padding {offset}"),
+        Some((name, start, _)) if place >= ARRAYS => format!("{name}[{:02X}h]", place - start + first_of(name)),
+        Some((name, start, _)) => format!("{name}+{}", place - start),
+        None => format!("padding+{}", place - PADDING),
     }
+}
+
+const PADDING: usize = offset_of!(ChipMemory, eeprom) + 512;
+
+/// The places that a name means, as `place_name` gives it, or a field's own name for all of its bytes.
+pub fn places_of(name: &str) -> Option<std::ops::Range<usize>> {
+    if let Some((name, number)) = name.split_once('+') {
+        let (start, length) = if name == "padding" { (PADDING, SIZE - PADDING) } else { field(name)? };
+        let number: usize = number.parse().ok().filter(|number| *number < length)?;
+        return Some(start + number..start + number + 1);
+    }
+    if let Some((name, number)) = name.split_once('[') {
+        let (start, length) = field(name)?;
+        let number = usize::from_str_radix(number.strip_suffix("h]")?, 16).ok()?.checked_sub(first_of(name))?;
+        return (number < length).then_some(start + number..start + number + 1);
+    }
+    field(name).map(|(start, length)| start..start + length)
 }
 
 // ---- Memory to plain chip --------------------------------------------------------------------------------------------------------------
 
+/// The command of a stage, as it rests; none where no command has that stage.
+fn command_of(stage: u8) -> Option<Command> {
+    Some(match stage {
+        0x00 => Command::Idle,
+        0x01 => Command::WriteE2(Writing::Unaddressed),
+        0x41 => Command::WriteE2(Writing::Ready { next: 0 }),
+        0x03 => Command::ReadE2,
+        0x07 => Command::LoadConfig,
+        0x0B => Command::LoadKeyE2,
+        0x12 => Command::CalcCrc,
+        0x19 => Command::LoadKey,
+        0x5A => Command::Transmit,
+        0x96 => Command::Receive,
+        0x5E => Command::Transceive { receiving: false },
+        0x9E => Command::Transceive { receiving: true },
+        _ => return None,
+    })
+}
+
+/// The stage of a command. While WriteE2 programs, 01h is the same.
+fn stage_of(command: Command) -> u8 {
+    match command {
+        Command::WriteE2(Writing::Ready { .. } | Writing::Programming { .. }) => 0x41,
+        command if command.sends() => 0x40 | command.code(),
+        command if command.receives() => 0x80 | command.code(),
+        command => command.code(),
+    }
+}
+
+/// "1 to 16 latched bytes wait inside one block at 010h or above". They end right before the next address, which is below 200h.
+fn batch_waits(next: u16, latched: u8) -> bool {
+    if !(1..=16).contains(&latched) {
+        return false;
+    }
+    let block = |back: u16| (next + 0x200 - back) % 0x200 / 16;
+    let (first, last) = (block(u16::from(latched)), block(1));
+    first == last && first >= 1
+}
+
 /// The plain chip of a memory; the reason when the memory is no chip's state, which is refusal 7.
 ///
-/// Document 01, "A state is malformed (7) unless", one sentence after the other.
+/// Document 01, "A state is malformed (7) unless", one sentence after the other, and nothing else: what the active command does not use is
+/// judged only where a sentence names it.
 pub fn plain_of<const FAULT: u8>(chip: &ChipMemory) -> Result<FaultyChip<FAULT>, &'static str> {
-    let core = &chip.core;
     let flag = |byte: u8, name| match byte {
         0 => Ok(false),
         1 => Ok(true),
         _ => Err(name),
     };
 
-    let held = core.ring.write.wrapping_sub(core.ring.read);
+    let held = chip.fifo_write.wrapping_sub(chip.fifo_read);
     judge(held <= Fifo::SIZE, "more than 64 bytes held")?;
 
-    let timer = if flag(core.timer.running, "timer.running is no flag")? {
-        judge(core.timer.value != 0, "a running timer at 0")?;
-        judge(core.timer.prescaler <= 21, "a kept prescaler above 21")?;
-        let period = 1u32 << core.timer.prescaler;
-        let full = FAULT == fault::FULL_PHASE_IS_WELL_FORMED && core.timer.phase == period;
-        judge(core.timer.phase < period || full, "a phase of 2^prescaler or more")?;
-        Timer { value: core.timer.value, run: Some(Run { prescaler: core.timer.prescaler as u8, phase: core.timer.phase }) }
+    let timer = if flag(chip.timer_running, "timer_running is no flag")? {
+        judge(chip.timer_value != 0, "a running timer at 0")?;
+        judge(chip.timer_prescaler <= 21, "a kept prescaler above 21")?;
+        let period = 1u32 << chip.timer_prescaler;
+        let full = FAULT == fault::FULL_PHASE_IS_WELL_FORMED && chip.timer_phase == period;
+        judge(chip.timer_phase < period || full, "a phase of 2^prescaler or more")?;
+        Timer { value: chip.timer_value, run: Some(Run { prescaler: chip.timer_prescaler, phase: chip.timer_phase }) }
     } else {
-        judge(core.timer.prescaler == 0 && core.timer.phase == 0, "a stopped timer with prescaler or phase")?;
-        Timer { value: core.timer.value, run: None }
+        judge(chip.timer_prescaler == 0 && chip.timer_phase == 0, "a stopped timer with prescaler or phase")?;
+        Timer { value: chip.timer_value, run: None }
     };
 
-    let mut command = Command::of_code(core.command).ok_or("the command is none")?;
-    let addressed = flag(core.writing.addressed, "writing.addressed is no flag")?;
-    let WritingMemory { next, latched, left, .. } = core.writing;
-    judge(next < 0x200, "the next address is 200h or above")?;
+    let stage = if FAULT == fault::STAGE_81_IS_LISTED && chip.stage == 0x81 { 0x41 } else { chip.stage };
+    let mut command = command_of(stage).ok_or("no command has this stage")?;
+
+    let ChipMemory { next_address: next, latched, programming_left: left, .. } = *chip;
     judge(left <= PROGRAMMING_CLOCKS, "more than 78,648 clocks left")?;
-    if let Command::WriteE2(writing) = &mut command {
-        if left > 0 {
-            judge((1..=16).contains(&latched), "programming without 1 to 16 latched bytes")?;
-            let first = (next + 0x200 - u16::from(latched)) % 0x200;
-            judge(first % 16 + u16::from(latched) <= 16, "latched bytes of two blocks")?;
-            judge(first >= 0x010, "latched bytes for block 0")?;
-            judge(addressed, "programming without an address")?;
-            *writing = Writing::Programming { next, latched, left };
-        } else {
-            judge(latched == 0, "latched bytes and no programming")?;
-            if addressed {
-                *writing = Writing::Ready { next };
-            }
+    let writes = matches!(command, Command::WriteE2(_));
+    if FAULT != fault::NEXT_ADDRESS_JUDGED_FOR_WRITE_E2_ALONE || writes {
+        judge(next < 0x200, "the next address is 200h or above")?;
+    }
+    if FAULT == fault::LEFT_OVER_COUNT_IS_MALFORMED {
+        judge(left > 0 || latched == 0, "a latched count left over")?;
+    }
+    if left > 0 {
+        judge(writes, "programming clocks left without WriteE2")?;
+        judge(batch_waits(next, latched), "programming clocks left, and not 1 to 16 bytes of one block at 010h or above for them")?;
+        judge(FAULT != fault::STAGE_01_DOES_NOT_PROGRAM || stage != 0x01, "programming without an address")?;
+        command = Command::WriteE2(Writing::Programming { next, latched, left });
+    } else if writes {
+        let none = FAULT == fault::BATCH_WITHOUT_CLOCKS_IS_WELL_FORMED;
+        judge(!batch_waits(next, latched) || none, "latched bytes wait in WriteE2, and no programming clocks are left")?;
+        if stage == 0x41 {
+            command = Command::WriteE2(Writing::Ready { next });
         }
-    } else {
-        judge(left == 0 && latched == 0 && !addressed, "programming, latched bytes or an address without WriteE2")?;
     }
 
-    let sending = flag(core.sending, "sending is no flag")?;
-    let receiving = flag(core.receiving, "receiving is no flag")?;
-    if let Command::Transceive { receiving: receives } = &mut command {
-        *receives = receiving;
-    }
-    judge(sending == command.sends() && receiving == command.receives(), "sending or receiving disagrees with the command")?;
     judge(held <= command.waits(), "bytes wait that the command would take, or end over")?;
 
-    judge(core.crc_mode & 0x10 == 0 || core.crc_register < 0x100, "a CRC8 checksum of 100h or above")?;
-    judge(core.interrupts.enables & !request::ALL == 0, "InterruptEn bits that read 0")?;
-    judge(core.interrupts.requests & !request::ALL == 0, "InterruptRq bits that read 0")?;
-    judge(core.page & !0x87 == 0, "Page bits that read 0")?;
-    judge(core.errors & !error::ALL == 0, "ErrorFlag bits that read 0")?;
-    judge(core.control & !0x30 == 0, "Control bits that read 0")?;
-    judge(core.rx_last_bits < 8, "RxLastBits above 7")?;
-    let loaded = flag(core.key_loaded, "key_loaded is no flag")?;
+    judge(chip.crc_mode & 0x10 == 0 || chip.crc_register < 0x100, "a CRC8 checksum of 100h or above")?;
+    judge(chip.interrupt_en & !request::ALL == 0, "InterruptEn bits that read 0")?;
+    judge(chip.interrupt_rq & !request::ALL == 0, "InterruptRq bits that read 0")?;
+    judge(chip.page & !0x87 == 0, "Page bits that read 0")?;
+    judge(chip.error_flag & !error::ALL == 0, "ErrorFlag bits that read 0")?;
+    judge(chip.control & !0x30 == 0, "Control bits that read 0")?;
+    judge(chip.rx_last_bits < 8, "RxLastBits above 7")?;
+    let loaded = flag(chip.key_loaded, "key_loaded is no flag")?;
+    judge(FAULT != fault::RESERVED_IS_JUDGED || reserved_is_zero(chip), "a reserved field that is not 0")?;
 
     let mut fifo = Fifo::new();
     for place in 0..held {
-        fifo.push(chip.slots[usize::from(core.ring.read.wrapping_add(place) % 64)]);
+        fifo.push(chip.slots[usize::from(chip.fifo_read.wrapping_add(place) % 64)]);
     }
     Ok(FaultyChip {
         fifo,
         timer,
         command,
         latch: chip.latch,
-        checksum: Checksum { value: core.crc_register, mode: core.crc_mode },
-        page: core.page,
-        enables: core.interrupts.enables,
-        requests: core.interrupts.requests,
-        errors: core.errors,
-        control: core.control,
-        rx_last_bits: core.rx_last_bits,
-        bit_framing: core.bit_framing,
+        checksum: Checksum { value: chip.crc_register, mode: chip.crc_mode },
+        page: chip.page,
+        enables: chip.interrupt_en,
+        requests: chip.interrupt_rq,
+        errors: chip.error_flag,
+        control: chip.control,
+        rx_last_bits: chip.rx_last_bits,
+        bit_framing: chip.bit_framing,
         key: loaded.then_some(chip.key),
         registers: chip.registers,
         eeprom: chip.eeprom,
@@ -236,47 +261,50 @@ fn judge(holds: bool, else_reason: &'static str) -> Result<(), &'static str> {
     }
 }
 
+/// What is kept for later requests is 0: a start leaves it so.
+pub fn reserved_is_zero(chip: &ChipMemory) -> bool {
+    chip.reserved_numbers == [0; 4] && chip.reserved_11 == 0 && chip.reserved_17 == [0; 7]
+}
+
 // ---- The comparison --------------------------------------------------------------------------------------------------------------------
 
 /// The first difference between a plain chip and the library's chip after an accepted call; `before` is the library's chip before it.
 ///
-/// Not compared, since no definition decides it: ring positions, slots beyond the held bytes, latch bytes beyond the count, WriteE2's next
-/// address while it has none, padding. Of a key that is not loaded: it is zeros, or as it was before the call.
+/// Not compared, since no definition decides it: ring positions, slots beyond the held bytes, latch bytes beyond the count, the latched count
+/// while nothing is programmed, WriteE2's next address while it has none, bit 6 of its stage while it programs, reserved fields, padding.
+/// Of a key that is not loaded: it is zeros, or as it was before the call.
 pub fn difference<const FAULT: u8>(plain: &FaultyChip<FAULT>, chip: &ChipMemory, before: &ChipMemory) -> Option<String> {
     // Document 01's conditions hold again, so that the next call is not refused.
     if let Err(reason) = plain_of::<{ fault::NONE }>(chip) {
         return Some(format!("the library's chip is malformed after an accepted call: {reason}"));
     }
-    let core = &chip.core;
     let run = plain.timer.run.unwrap_or(Run { prescaler: 0, phase: 0 });
-    let (addressed, next, latched, left) = match plain.command {
-        Command::WriteE2(Writing::Ready { next }) => (true, Some(next), 0, 0),
-        Command::WriteE2(Writing::Programming { next, latched, left }) => (true, Some(next), latched, left),
-        _ => (false, None, 0, 0),
+    let (next, latched, left) = match plain.command {
+        Command::WriteE2(Writing::Ready { next }) => (Some(next), None, 0),
+        Command::WriteE2(Writing::Programming { next, latched, left }) => (Some(next), Some(latched), left),
+        _ => (None, None, 0),
     };
-    let fields: [(&str, u32, u32); 23] = [
-        ("held count", u32::from(plain.fifo.held()), u32::from(core.ring.write.wrapping_sub(core.ring.read))),
-        ("timer.running", u32::from(plain.timer.run.is_some()), u32::from(core.timer.running)),
-        ("timer.value", u32::from(plain.timer.value), u32::from(core.timer.value)),
-        ("timer.prescaler", u32::from(run.prescaler), u32::from(core.timer.prescaler)),
-        ("timer.phase", run.phase, core.timer.phase),
-        ("crc_register", u32::from(plain.checksum.value), u32::from(core.crc_register)),
-        ("crc_mode", u32::from(plain.checksum.mode), u32::from(core.crc_mode)),
-        ("writing.addressed", u32::from(addressed), u32::from(core.writing.addressed)),
-        ("writing.next", u32::from(next.unwrap_or(core.writing.next)), u32::from(core.writing.next)),
-        ("writing.latched", u32::from(latched), u32::from(core.writing.latched)),
-        ("writing.left", left, core.writing.left),
-        ("interrupts.enables", u32::from(plain.enables), u32::from(core.interrupts.enables)),
-        ("interrupts.requests", u32::from(plain.requests), u32::from(core.interrupts.requests)),
-        ("page", u32::from(plain.page), u32::from(core.page)),
-        ("command", u32::from(plain.command.code()), u32::from(core.command)),
-        ("sending", u32::from(plain.command.sends()), u32::from(core.sending)),
-        ("receiving", u32::from(plain.command.receives()), u32::from(core.receiving)),
-        ("errors", u32::from(plain.errors), u32::from(core.errors)),
-        ("control", u32::from(plain.control), u32::from(core.control)),
-        ("rx_last_bits", u32::from(plain.rx_last_bits), u32::from(core.rx_last_bits)),
-        ("bit_framing", u32::from(plain.bit_framing), u32::from(core.bit_framing)),
-        ("key_loaded", u32::from(plain.key.is_some()), u32::from(core.key_loaded)),
+    let stage = if left > 0 { chip.stage | 0x40 } else { chip.stage };
+    let fields: [(&str, u32, u32); 20] = [
+        ("held count", u32::from(plain.fifo.held()), u32::from(chip.fifo_write.wrapping_sub(chip.fifo_read))),
+        ("timer_running", u32::from(plain.timer.run.is_some()), u32::from(chip.timer_running)),
+        ("timer_value", u32::from(plain.timer.value), u32::from(chip.timer_value)),
+        ("timer_prescaler", u32::from(run.prescaler), u32::from(chip.timer_prescaler)),
+        ("timer_phase", run.phase, chip.timer_phase),
+        ("crc_register", u32::from(plain.checksum.value), u32::from(chip.crc_register)),
+        ("crc_mode", u32::from(plain.checksum.mode), u32::from(chip.crc_mode)),
+        ("stage", u32::from(stage_of(plain.command)), u32::from(stage)),
+        ("next_address", u32::from(next.unwrap_or(chip.next_address)), u32::from(chip.next_address)),
+        ("latched", u32::from(latched.unwrap_or(chip.latched)), u32::from(chip.latched)),
+        ("programming_left", left, chip.programming_left),
+        ("interrupt_en", u32::from(plain.enables), u32::from(chip.interrupt_en)),
+        ("interrupt_rq", u32::from(plain.requests), u32::from(chip.interrupt_rq)),
+        ("page", u32::from(plain.page), u32::from(chip.page)),
+        ("error_flag", u32::from(plain.errors), u32::from(chip.error_flag)),
+        ("control", u32::from(plain.control), u32::from(chip.control)),
+        ("rx_last_bits", u32::from(plain.rx_last_bits), u32::from(chip.rx_last_bits)),
+        ("bit_framing", u32::from(plain.bit_framing), u32::from(chip.bit_framing)),
+        ("key_loaded", u32::from(plain.key.is_some()), u32::from(chip.key_loaded)),
         ("key", 0, u32::from(!key_agrees(plain.key, chip, before))),
     ];
     for (name, ours, theirs) in fields {
@@ -285,10 +313,10 @@ pub fn difference<const FAULT: u8>(plain: &FaultyChip<FAULT>, chip: &ChipMemory,
         }
     }
     let held = plain.fifo.bytes().enumerate().map(|(place, byte)| {
-        let slot = usize::from(core.ring.read.wrapping_add(place as u8) % 64);
+        let slot = usize::from(chip.fifo_read.wrapping_add(place as u8) % 64);
         ("held byte", place, byte, chip.slots[slot])
     });
-    let latch = (0..usize::from(latched)).map(|place| ("latched byte", place, plain.latch[place], chip.latch[place]));
+    let latch = (0..usize::from(latched.unwrap_or(0))).map(|place| ("latched byte", place, plain.latch[place], chip.latch[place]));
     if let Some((name, place, ours, theirs)) = held.chain(latch).find(|(_, _, ours, theirs)| ours != theirs) {
         return Some(format!("{name} {place}: plain {ours:02X}h, library {theirs:02X}h"));
     }
@@ -299,7 +327,7 @@ pub fn difference<const FAULT: u8>(plain: &FaultyChip<FAULT>, chip: &ChipMemory,
 fn key_agrees(key: Option<[u8; 6]>, chip: &ChipMemory, before: &ChipMemory) -> bool {
     match key {
         Some(key) => key == chip.key,
-        None => chip.key == [0; 6] || before.core.key_loaded == 0 && chip.key == before.key,
+        None => chip.key == [0; 6] || before.key_loaded == 0 && chip.key == before.key,
     }
 }
 
@@ -314,36 +342,41 @@ fn array_difference(name: &str, first: usize, ours: &[u8], theirs: &[u8]) -> Opt
 // ---- Plain chip to memory --------------------------------------------------------------------------------------------------------------
 
 /// Writes a plain chip into a memory, for the stand-in of the library. `position` is where the FIFO's read position shall be.
+///
+/// What no definition decides stays as it was, or is one thing at some positions and another at others.
 #[cfg_attr(not(feature = "stub"), allow(dead_code))]
 pub fn store<const FAULT: u8>(plain: &FaultyChip<FAULT>, position: u8, chip: &mut ChipMemory) {
     let run = plain.timer.run;
-    let core = &mut chip.core;
-    core.ring = RingMemory { read: position, write: position.wrapping_add(plain.fifo.held()) };
-    core.timer.running = u8::from(run.is_some());
-    core.timer.value = plain.timer.value;
-    core.timer.prescaler = run.map_or(0, |run| u16::from(run.prescaler));
-    core.timer.phase = run.map_or(0, |run| run.phase);
-    core.crc_register = plain.checksum.value;
-    core.crc_mode = plain.checksum.mode;
-    let (addressed, next, latched, left) = match plain.command {
-        Command::WriteE2(Writing::Ready { next }) => (1, next, 0, 0),
-        Command::WriteE2(Writing::Programming { next, latched, left }) => (1, next, latched, left),
-        _ => (0, 0, 0, 0),
-    };
-    core.writing.addressed = addressed;
-    core.writing.next = next;
-    core.writing.latched = latched;
-    core.writing.left = left;
-    core.interrupts = InterruptsMemory { enables: plain.enables, requests: plain.requests };
-    core.page = plain.page;
-    core.command = plain.command.code();
-    core.sending = u8::from(plain.command.sends());
-    core.receiving = u8::from(plain.command.receives());
-    core.errors = plain.errors;
-    core.control = plain.control;
-    core.rx_last_bits = plain.rx_last_bits;
-    core.bit_framing = plain.bit_framing;
-    core.key_loaded = u8::from(plain.key.is_some());
+    chip.fifo_read = position;
+    chip.fifo_write = position.wrapping_add(plain.fifo.held());
+    chip.timer_running = u8::from(run.is_some());
+    chip.timer_value = plain.timer.value;
+    chip.timer_prescaler = run.map_or(0, |run| run.prescaler);
+    chip.timer_phase = run.map_or(0, |run| run.phase);
+    chip.crc_register = plain.checksum.value;
+    chip.crc_mode = plain.checksum.mode;
+    chip.stage = stage_of(plain.command);
+    chip.programming_left = 0;
+    chip.next_address %= 0x200;
+    if let Command::WriteE2(writing) = plain.command {
+        chip.latched = 0;
+        match writing {
+            Writing::Unaddressed => {}
+            Writing::Ready { next } => chip.next_address = next,
+            Writing::Programming { next, latched, left } => {
+                (chip.next_address, chip.latched, chip.programming_left) = (next, latched, left);
+                chip.stage = [0x01, 0x41][usize::from(position % 2)];
+            }
+        }
+    }
+    chip.interrupt_en = plain.enables;
+    chip.interrupt_rq = plain.requests;
+    chip.page = plain.page;
+    chip.error_flag = plain.errors;
+    chip.control = plain.control;
+    chip.rx_last_bits = plain.rx_last_bits;
+    chip.bit_framing = plain.bit_framing;
+    chip.key_loaded = u8::from(plain.key.is_some());
     for (place, byte) in plain.fifo.bytes().enumerate() {
         chip.slots[usize::from(position.wrapping_add(place as u8) % 64)] = byte;
     }

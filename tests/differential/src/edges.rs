@@ -1,9 +1,11 @@
 //! Directed calls at the edges of the C interface, with the answers that document 01 wants.
 //!
 //! Lengths of 2^32 and more, which a library that keeps a length in fewer bits would take for small ones: the memory is there, as pages that
-//! nothing has touched. And arguments of fewer than 64 bits whose registers hold something above bit 31, as a C caller may leave it.
+//! nothing has touched. Arguments of fewer than 64 bits whose registers hold something above bit 31, as a C caller may leave it. And starts
+//! from memory of any kind.
 
-use crate::call::first_memory;
+use crate::call::{first_memory, Fill, Image};
+use crate::chip_memory::{place_name, reserved_is_zero, FIELDS};
 use crate::library;
 use std::alloc::{alloc_zeroed, dealloc, Layout};
 
@@ -93,5 +95,28 @@ pub fn upper_halves() -> Result<(), String> {
 
 #[cfg(feature = "stub")]
 pub fn upper_halves() -> Result<(), String> {
+    Ok(())
+}
+
+/// The same image gives the same chip, byte for byte, whatever the memory was; what is kept for later requests is 0. Padding is nobody's.
+pub fn starts() -> Result<(), String> {
+    let image = Image { fill: Fill::Keys, seed: 12, length: 512 }.bytes();
+    let mut first = None;
+    for seed in 0..20 {
+        let mut memory = first_memory(seed);
+        if seed < 2 {
+            memory.0.fill(if seed == 0 { 0x00 } else { 0xFF });
+        }
+        // SAFETY: the chip is whole, and the image has its length.
+        let answer = unsafe { library::mfrc531_start(memory.as_mut_ptr(), image.as_ptr(), image.len()) };
+        if answer != 0 || !reserved_is_zero(memory.chip()) {
+            return Err(format!("start: answered {answer:08X}h; reserved fields are 0: {}", reserved_is_zero(memory.chip())));
+        }
+        let first = first.get_or_insert(memory);
+        let mut fields = FIELDS.iter().flat_map(|(_, start, length)| *start..start + length);
+        if let Some(place) = fields.find(|place| first.0[*place] != memory.0[*place]) {
+            return Err(format!("starts from one image differ, by the memory before them, at {}", place_name(place)));
+        }
+    }
     Ok(())
 }

@@ -2,7 +2,7 @@
 //! with its CRC, a programming to its last clock ...), and strays from them now and then.
 
 use crate::call::{lively, Call, Fill, Image};
-use crate::chip_memory::{Memory, FIELDS, SIZE};
+use crate::chip_memory::{field, Memory, ARRAYS, SIZE};
 use crate::plain::{stored_nibble, Checksum, Command, FaultyChip, Writing, PROGRAMMING_CLOCKS};
 use crate::random::Random;
 use std::collections::VecDeque;
@@ -27,9 +27,14 @@ pub struct Generator {
     plan: VecDeque<Step>,
     /// Calls until a corruption is mended; 0: none is to be.
     mend_in: u64,
+    /// A command to be written after a forged state.
+    after_forging: Option<u8>,
+    /// One call in so many writes into the chip's memory, besides the plans that do; 0: none.
+    hostile: u64,
 }
 
 const COMMANDS: [u8; 10] = [0x00, 0x01, 0x03, 0x07, 0x0B, 0x12, 0x16, 0x19, 0x1A, 0x1E];
+const STAGES: [u8; 12] = [0x00, 0x01, 0x41, 0x03, 0x07, 0x0B, 0x12, 0x19, 0x5A, 0x96, 0x5E, 0x9E];
 const SETTINGS: [u8; 8] = [0x0F, 0x22, 0x23, 0x24, 0x29, 0x2A, 0x2B, 0x2C];
 const EDGES: [u16; 28] = [
     0x000, 0x001, 0x00F, 0x010, 0x011, 0x01F, 0x020, 0x05F, 0x060, 0x061, 0x070, 0x07E, 0x07F, 0x080, 0x081, 0x0F8, 0x100, 0x16C, 0x16F,
@@ -37,8 +42,9 @@ const EDGES: [u16; 28] = [
 ];
 
 impl Generator {
-    pub fn new(random: Random) -> Self {
-        Generator { random, plan: VecDeque::new(), mend_in: 0 }
+    pub fn new(mut random: Random) -> Self {
+        let hostile = random.of(&[0, 0, 40, 10]);
+        Generator { random, plan: VecDeque::new(), mend_in: 0, after_forging: None, hostile }
     }
 
     /// The next call, by the plain chip; none is for a malformed memory.
@@ -54,6 +60,9 @@ impl Generator {
         };
         if self.random.one_in(14) {
             return self.stray();
+        }
+        if self.hostile > 0 && self.random.one_in(self.hostile) {
+            return self.corrupt(memory);
         }
         loop {
             match self.plan.pop_front() {
@@ -491,9 +500,9 @@ impl Generator {
     fn corrupt(&mut self, memory: &Memory) -> Call {
         let mut edits = Vec::new();
         match self.random.below(8) {
-            0 => edits.push((self.random.below(40) as u16, self.random.byte())),
+            0 => edits.push((self.random.below(ARRAYS as u64) as u16, self.random.byte())),
             1 => {
-                let place = self.random.below(40) as u16;
+                let place = self.random.below(ARRAYS as u64) as u16;
                 let old = memory.0[usize::from(place)];
                 let new = match self.random.below(3) {
                     0 => old.wrapping_add(1),
@@ -508,9 +517,9 @@ impl Generator {
                 }
             }
             3 => {
-                // Slots, registers, latch, key: any bytes are well formed.
+                // Registers, slots, latch, key, and some of the EEPROM: any bytes are well formed.
                 for _ in 0..=self.random.below(4) {
-                    edits.push((40 + self.random.below(118) as u16, self.random.byte()));
+                    edits.push((ARRAYS as u16 + self.random.below(150) as u16, self.random.byte()));
                 }
             }
             4 => (0..=self.random.below(3)).for_each(|_| self.forge(&mut edits)),
@@ -521,6 +530,9 @@ impl Generator {
             self.mend_in = 0;
         }
         self.plan.clear();
+        if let Some(code) = self.after_forging.take() {
+            self.set(0x01, code);
+        }
         Call::Corrupt { edits }
     }
 
@@ -528,62 +540,69 @@ impl Generator {
     fn forge(&mut self, edits: &mut Vec<(u16, u8)>) {
         let random = &mut self.random;
         let mut put = |name: &str, value: u32| {
-            let (_, start, length) = FIELDS.iter().find(|(field, ..)| *field == name).unwrap_or_else(|| panic!("no field {name}"));
-            edits.extend((0..*length).map(|place| ((start + place) as u16, (value >> (8 * place)) as u8)));
+            let (start, length) = field(name).unwrap_or_else(|| panic!("no field {name}"));
+            edits.extend((0..length).map(|place| ((start + place) as u16, value.checked_shr(8 * place as u32).unwrap_or(0) as u8)));
         };
-        match random.below(9) {
+        match random.below(14) {
             0 | 1 => {
-                let prescaler = random.of(&[0, 0, 1, 2, 5, 12, 20, 21, 21, 22, 31, 32, 255, 256, 0x0105, 0xFFFF]);
+                let prescaler = random.of(&[0, 0, 1, 2, 5, 12, 20, 21, 21, 22, 23, 31, 32, 33, 53, 64, 128, 254, 255]);
                 let period = 1u32.checked_shl(prescaler).unwrap_or(0);
-                put("timer.running", random.of(&[1, 1, 1, 1, 1, 1, 2, 255, 0]));
-                put("timer.value", random.of(&[0, 1, 1, 1, 2, 3, 100, 255]));
-                put("timer.prescaler", prescaler);
+                put("timer_running", random.of(&[1, 1, 1, 1, 1, 1, 2, 255, 0]));
+                put("timer_value", random.of(&[0, 1, 1, 1, 2, 3, 100, 255]));
+                put("timer_prescaler", prescaler);
                 let within = random.below(u64::from(period).max(1)) as u32;
-                put("timer.phase", random.of(&[0, within, within, period.wrapping_sub(1), period.wrapping_sub(1), period, u32::MAX]));
+                put("timer_phase", random.of(&[0, within, within, period.wrapping_sub(1), period.wrapping_sub(1), period, u32::MAX]));
             }
             2 => {
-                put("timer.running", 0);
-                put("timer.value", u32::from(random.byte()));
-                put("timer.prescaler", random.of(&[0, 0, 0, 0, 1, 21]));
-                put("timer.phase", random.of(&[0, 0, 0, 0, 1, 0x0100, 0x1_0000, 0x100_0000]));
+                put("timer_running", 0);
+                put("timer_value", u32::from(random.byte()));
+                put("timer_prescaler", random.of(&[0, 0, 0, 0, 1, 21, 128]));
+                put("timer_phase", random.of(&[0, 0, 0, 0, 1, 0x0100, 0x1_0000, 0x100_0000]));
             }
-            3 | 4 => {
-                let next = match random.below(3) {
-                    0 => random
-                        .of(&[0x000, 0x001, 0x00F, 0x010, 0x011, 0x012, 0x01F, 0x020, 0x021, 0x1F0, 0x1FF, 0x1FF, 0x200, 0x201, 0x400]),
-                    1 => 16 * random.below(33) as u32,
-                    _ => random.below(0x200) as u32,
-                };
-                let fitting = if next % 16 == 0 { 16 } else { next % 16 };
-                put("command", random.of(&[1, 1, 1, 1, 1, 1, 1, 1, 0, 3]));
-                put("sending", 0);
-                put("receiving", 0);
-                put("writing.addressed", random.of(&[1, 1, 1, 1, 1, 1, 1, 0, 2]));
-                put("writing.next", next);
-                put("writing.latched", random.of(&[fitting, fitting, 1, 1 + random.clone().below(16) as u32, 0, 16, 17, 255]));
+            3..=5 => {
+                // WriteE2 with a batch, or a little beside it.
+                let next = batch_end(random);
+                let fitting = (next + 15) % 16 + 1;
+                let within = 1 + random.below(u64::from(fitting)) as u32;
                 let any = random.below(u64::from(PROGRAMMING_CLOCKS)) as u32;
+                put("stage", random.of(&[0x01, 0x01, 0x01, 0x41, 0x41, 0x41, 0x41, 0x41, 0x81, 0xC1, 0x00, 0x03, 0x12]));
+                put("next_address", next);
                 put(
-                    "writing.left",
-                    random.of(&[
-                        any,
-                        any,
-                        1,
-                        1,
-                        2,
-                        65_535,
-                        65_536,
-                        PROGRAMMING_CLOCKS,
-                        PROGRAMMING_CLOCKS,
-                        PROGRAMMING_CLOCKS + 1,
-                        0,
-                        0x100_0001,
-                    ]),
+                    "latched",
+                    random.of(&[fitting, fitting, within, within, 1, fitting + 1, 1 + random.clone().below(16) as u32, 0, 16, 17, 255]),
                 );
+                let most = PROGRAMMING_CLOCKS;
+                let left = [any, any, 1, 1, 1, 2, 65_535, 65_536, most, most, most + 1, 0, 0, 0x100_0001, 0x8000_0000, u32::MAX];
+                put("programming_left", random.of(&left));
+                if random.one_in(3) {
+                    let (read, held) = (random.byte(), random.of(&[0, 0, 1, 2, 16, 63, 64, 64, 65, 128, 255]));
+                    put("fifo_read", u32::from(read));
+                    put("fifo_write", u32::from(read.wrapping_add(held)));
+                }
             }
-            5 | 6 => {
-                let code = random.of(&COMMANDS);
-                let limit = match code {
-                    0x01 | 0x07 | 0x0B => 1,
+            6 => {
+                // A latched count left over, and then WriteE2 again, or the end of one.
+                let next = batch_end(random);
+                let fitting = (next + 15) % 16 + 1;
+                put("stage", u32::from(random.of(&STAGES)));
+                put("next_address", next);
+                put("latched", random.of(&[fitting, fitting, 1, 16, 17, 255]));
+                put("programming_left", random.of(&[0, 0, 0, 0, 0, 0, 0, 1]));
+                let read = random.byte();
+                put("fifo_read", u32::from(read));
+                put("fifo_write", u32::from(read.wrapping_add(random.of(&[0, 0, 0, 0, 1, 2, 64]))));
+                self.after_forging = random.of(&[None, Some(0x01), Some(0x01), Some(0x12), Some(0x00)]);
+            }
+            7..=9 => {
+                // A stage, and about as many bytes as may wait.
+                let stage = match random.below(6) {
+                    0 => random.byte(),
+                    1 => random.of(&COMMANDS) | random.of(&[0x40, 0x80, 0xC0]),
+                    _ => random.of(&STAGES),
+                };
+                let limit = match stage & 0x3F {
+                    0x01 => random.of(&[0, 1]),
+                    0x07 | 0x0B => 1,
                     0x03 => 2,
                     0x12 => 0,
                     0x19 => 11,
@@ -591,31 +610,37 @@ impl Generator {
                 };
                 let read = random.byte();
                 let held = random.of(&[0, 0, 0, limit, limit, limit, limit + 1, 64, 65, 128, 255]);
-                let receives = code == 0x16 || code == 0x1E && random.one_in(2);
-                let sends = code == 0x1A || code == 0x1E && !receives;
-                let wrong = random.one_in(6);
-                put("command", u32::from(code));
-                put("sending", u32::from(sends ^ (wrong && random.one_in(2))));
-                put("receiving", u32::from(receives ^ (wrong && random.one_in(2))));
-                put("ring.read", u32::from(read));
-                put("ring.write", u32::from(read.wrapping_add(held)));
-                put("writing.addressed", u32::from(code == 1 && random.one_in(3)));
-                put("writing.latched", 0);
-                put("writing.left", 0);
-                put("errors", u32::from(random.byte() & 0x7A));
+                put("stage", u32::from(stage));
+                put("fifo_read", u32::from(read));
+                put("fifo_write", u32::from(read.wrapping_add(held)));
+                put("programming_left", 0);
+                if random.one_in(2) {
+                    put("latched", 0);
+                }
+                put("error_flag", u32::from(random.byte() & 0x7A));
             }
-            7 => {
+            10 => {
                 put("crc_mode", u32::from(random.byte()));
                 let value = random.of(&[random.clone().byte() as u32, random.clone().number() as u32, 0xFF, 0x100]);
                 put("crc_register", value);
             }
+            11 => put("next_address", batch_end(random)),
+            12 => {
+                let name = random.of(&["reserved_numbers", "reserved_11", "reserved_17"]);
+                let (start, length) = field(name).unwrap_or_default();
+                for place in start..start + length {
+                    if random.one_in(2) {
+                        edits.push((place as u16, random.byte()));
+                    }
+                }
+            }
             _ => {
                 let (name, mask) = random.of(&[
                     ("page", 0x87),
-                    ("errors", 0x7A),
+                    ("error_flag", 0x7A),
                     ("control", 0x30),
-                    ("interrupts.enables", 0x3F),
-                    ("interrupts.requests", 0x3F),
+                    ("interrupt_en", 0x3F),
+                    ("interrupt_rq", 0x3F),
                     ("rx_last_bits", 0x07),
                     ("key_loaded", 0x01),
                     ("bit_framing", 0xFF),
@@ -625,5 +650,15 @@ impl Generator {
                 put(name, u32::from(byte));
             }
         }
+    }
+}
+
+/// A next address, at the ends of blocks and of the memory, and beyond it. Before it stand (next + 15) mod 16 + 1 bytes of its block.
+fn batch_end(random: &mut Random) -> u32 {
+    match random.below(4) {
+        0 => random.of(&[0x000, 0x001, 0x00F, 0x010, 0x011, 0x012, 0x01F, 0x020, 0x021, 0x1F0, 0x1FF]),
+        1 => random.of(&[0x1FF, 0x1FF, 0x200, 0x200, 0x201, 0x20F, 0x210, 0x400, 0x8000, 0xFE20, 0xFFF0, 0xFFFF]),
+        2 => 16 * random.below(33) as u32,
+        _ => random.below(0x200) as u32,
     }
 }

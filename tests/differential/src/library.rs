@@ -50,7 +50,7 @@ mod stub {
         };
         match event(&mut plain) {
             Ok(answer) => {
-                let position = memory.core.ring.read.wrapping_add(37);
+                let position = memory.fifo_read.wrapping_add(37);
                 store(&plain, position, memory);
                 answer
             }
@@ -61,6 +61,7 @@ mod stub {
     pub unsafe fn mfrc531_start(chip: *mut ChipMemory, image: *const u8, length: usize) -> u32 {
         match Chip::started(slice::from_raw_parts(image, length)) {
             Ok(plain) => {
+                *chip = std::mem::zeroed();
                 store(&plain, 0, &mut *chip);
                 0
             }

@@ -1,6 +1,7 @@
 //! Calls on two chips: the proved library by its C interface, and a plain model written from document 01. After each call the answer,
 //! every lent byte and the whole chip are compared. See README.md.
 
+mod built;
 mod call;
 mod checksum;
 mod chip_memory;
@@ -11,6 +12,7 @@ mod plain;
 mod profile;
 mod race;
 mod random;
+mod recorded;
 mod registers;
 mod session;
 mod statistics;
@@ -28,7 +30,7 @@ use std::time::{Duration, Instant};
 /// The chip without a fault.
 const NONE: u8 = plain::fault::NONE;
 
-const USAGE: &str = "differential [--calls N] [--seed S] [--break N|all] [--random] [--trace] | --replay FILE | --race";
+const USAGE: &str = "differential [--calls N] [--seed S] [--break N|all] [--random] [--trace] | --replay FILE | --race | --mixes | --count CHIP KIND ROUNDS";
 
 /// Lists written by hand, run before the random ones.
 const DIRECTED: [(&str, &str); 4] = [
@@ -47,7 +49,27 @@ struct Options {
     random: bool,
     replay: Option<String>,
     race: bool,
+    /// Race the two mixes alone.
+    mixes: bool,
+    /// Make calls of a kind on a plain chip, for tests/instructions: chip, kind, rounds.
+    count: Option<(String, String, u64)>,
     faults: Vec<u8>,
+}
+
+impl Default for Options {
+    fn default() -> Self {
+        Options {
+            calls: 1_000_000,
+            seed: 1,
+            trace: false,
+            random: false,
+            replay: None,
+            race: false,
+            mixes: false,
+            count: None,
+            faults: Vec::new(),
+        }
+    }
 }
 
 fn main() -> ExitCode {
@@ -58,6 +80,16 @@ fn main() -> ExitCode {
                 println!();
                 checksum::race();
                 true
+            } else if options.mixes {
+                race::mixes();
+                true
+            } else if let Some((chip, kind, rounds)) = &options.count {
+                let calls = race::count(chip, kind, *rounds);
+                match calls {
+                    Some(calls) => println!("{calls}"),
+                    None => eprintln!("no such chip or kind: {chip} {kind}"),
+                }
+                calls.is_some()
             } else if let Some(file) = &options.replay {
                 replay(file)
             } else if options.faults.is_empty() {
@@ -75,7 +107,7 @@ fn main() -> ExitCode {
 }
 
 fn options() -> Result<Options, String> {
-    let mut options = Options { calls: 1_000_000, seed: 1, trace: false, random: false, replay: None, race: false, faults: Vec::new() };
+    let mut options = Options::default();
     let mut words = std::env::args().skip(1);
     while let Some(word) = words.next() {
         let mut value = || words.next().ok_or(format!("{word} wants a value"));
@@ -85,6 +117,8 @@ fn options() -> Result<Options, String> {
             "--trace" => options.trace = true,
             "--random" => options.random = true,
             "--race" => options.race = true,
+            "--mixes" => options.mixes = true,
+            "--count" => options.count = Some((value()?, value()?, number(&value()?)?)),
             "--replay" => options.replay = Some(value()?),
             "--break" => {
                 let all = plain::fault::NAMES.len() as u64;
@@ -122,7 +156,7 @@ struct Failure {
 /// The whole comparison. True if nothing differs.
 fn compare(options: &Options) -> bool {
     println!("Plain chip against {}, seed {}, {} calls.", library::NAME, options.seed, options.calls);
-    if let Err(message) = edges::lengths().and_then(|()| edges::upper_halves()) {
+    if let Err(message) = edges::lengths().and_then(|()| edges::upper_halves()).and_then(|()| edges::starts()) {
         println!("DIFFERENCE in the directed calls at the edges of the interface: {message}");
         return false;
     }
@@ -141,11 +175,21 @@ fn compare(options: &Options) -> bool {
             return false;
         }
     };
+    let built = match built::judged::<NONE>(options.seed).and_then(|states| built::worked::<NONE>().map(|calls| (states, calls))) {
+        Ok(built) => built,
+        Err(message) => {
+            println!("DIFFERENCE on a chip that was built: {message}");
+            return false;
+        }
+    };
     match run::<NONE>(options) {
         Ok(statistics) => {
             println!(
-                "No difference, {:.1} s. {statistics}; besides, {profiles} profile checks and choices, {checksums} checksums over slices",
-                begin.elapsed().as_secs_f64()
+                "No difference, {:.1} s. {statistics}; besides, {} built states judged and {} calls on such, {profiles} profile checks and \
+                 choices, {checksums} checksums over slices",
+                begin.elapsed().as_secs_f64(),
+                built.0,
+                built.1
             );
             true
         }
@@ -348,7 +392,7 @@ fn notice(fault: u8, options: &Options) -> bool {
             }
         };
     }
-    let (failure, shrink, show) = planted!(1 2 3 4 5 6 7 8 9 10 11 12 13 14 15 16 17 18);
+    let (failure, shrink, show) = planted!(1 2 3 4 5 6 7 8 9 10 11 12 13 14 15 16 17 18 19 20 21 22 23 24);
     let name = plain::fault::NAMES[usize::from(fault) - 1];
     match failure {
         Some(failure) => {

@@ -37,9 +37,15 @@ pub mod fault {
     pub const ALERTS_JUDGED_BYTE_BY_BYTE: u8 = 16;
     pub const FULL_PHASE_IS_WELL_FORMED: u8 = 17;
     pub const TAKE_CLEARS_LAST_BITS: u8 = 18;
+    pub const LEFT_OVER_COUNT_IS_MALFORMED: u8 = 19;
+    pub const BATCH_WITHOUT_CLOCKS_IS_WELL_FORMED: u8 = 20;
+    pub const STAGE_01_DOES_NOT_PROGRAM: u8 = 21;
+    pub const STAGE_81_IS_LISTED: u8 = 22;
+    pub const NEXT_ADDRESS_JUDGED_FOR_WRITE_E2_ALONE: u8 = 23;
+    pub const RESERVED_IS_JUDGED: u8 = 24;
 
     /// What the faults are, from 1 on.
-    pub const NAMES: [&str; 18] = [
+    pub const NAMES: [&str; 24] = [
         "WaterLevel is off by one",
         "a Command write clears FIFOOvfl",
         "an overflow drops the oldest byte",
@@ -58,6 +64,12 @@ pub mod fault {
         "a byte that a command takes at once raises a LoAlert request",
         "a phase of 2^prescaler is well formed",
         "a take clears TxLastBits",
+        "a latched count left over while nothing is programmed is malformed",
+        "WriteE2 with latched bytes of one block and no clocks left is well formed",
+        "clocks left at stage 01h are malformed",
+        "stage 81h is listed",
+        "the next address is judged for WriteE2 alone",
+        "a reserved field is judged",
     ];
 }
 
@@ -476,11 +488,8 @@ impl<const FAULT: u8> FaultyChip<FAULT> {
             }
             _ => true,
         };
-        let zeros = (self.enables | self.requests) & 0xC0
-            | self.errors & 0x85
-            | self.page & 0x78
-            | self.control & 0xCF
-            | self.rx_last_bits & 0xF8;
+        let zeros =
+            (self.enables | self.requests) & 0xC0 | self.errors & 0x85 | self.page & 0x78 | self.control & 0xCF | self.rx_last_bits & 0xF8;
         let checksum = !self.checksum.is_8_bits() || self.checksum.value < 0x100;
         self.fifo.held() <= self.command.waits() && timer && writing && zeros == 0 && checksum
     }

@@ -7,11 +7,16 @@
 use crate::chip_memory::{Memory, SIZE};
 use crate::library as lib;
 use crate::plain::{Chip, Refusal};
+use crate::recorded::{recorded, Access};
 use crate::registers::*;
 use std::hint::black_box;
 use std::time::Instant;
 
-const ROUNDS: usize = 300;
+const ROUNDS: usize = 3000;
+
+/// Rounds of the recorded mix, and how many of its calls are timed at once.
+const RECORDED_ROUNDS: usize = 100;
+const PIECE: usize = 1020;
 
 /// The plain chip that judges its state at each call.
 struct Judged(Chip);
@@ -24,6 +29,8 @@ trait Bench {
     fn advance(&mut self, clocks: u32) -> u32;
     fn take(&mut self, buffer: &mut [u8]) -> u32;
     fn deliver(&mut self, bytes: &[u8], parities: &[u8]) -> u32;
+    /// Empties the FIFO without an event.
+    fn empty(&mut self);
 }
 
 impl Bench for Memory {
@@ -45,6 +52,10 @@ impl Bench for Memory {
     }
     fn deliver(&mut self, bytes: &[u8], parities: &[u8]) -> u32 {
         unsafe { lib::mfrc531_deliver(self.as_mut_ptr(), bytes.as_ptr(), bytes.len(), parities.as_ptr(), parities.len(), 0) }
+    }
+    fn empty(&mut self) {
+        let chip = self.chip_mut();
+        chip.fifo_read = chip.fifo_write;
     }
 }
 
@@ -76,6 +87,9 @@ impl Bench for Chip {
     #[inline(never)]
     fn deliver(&mut self, bytes: &[u8], parities: &[u8]) -> u32 {
         number(Chip::deliver(self, bytes, parities, 0).map(|()| 0))
+    }
+    fn empty(&mut self) {
+        self.fifo.clear();
     }
 }
 
@@ -114,6 +128,9 @@ impl Bench for Judged {
     fn deliver(&mut self, bytes: &[u8], parities: &[u8]) -> u32 {
         self.judged(|chip| number(chip.deliver(bytes, parities, 0).map(|()| 0)))
     }
+    fn empty(&mut self) {
+        self.0.fifo.clear();
+    }
 }
 
 /// One round of calls; answers a sum of all answers, so that none is left out and both chips can be compared.
@@ -150,6 +167,22 @@ fn mix<B: Bench>(chip: &mut B) -> u64 {
         sum += u64::from(chip.read(0x0D)) + u64::from(chip.read(0x0E));
     }
     sum
+}
+
+/// Bytes for an Idle chip, up to a full FIFO, and a flush.
+fn fifo_fills<B: Bench>(chip: &mut B) -> u64 {
+    let mut sum = 0;
+    for _ in 0..15 {
+        for byte in 0..64 {
+            sum += u64::from(chip.write(black_box(FIFO_DATA), byte));
+        }
+        sum += u64::from(chip.write(black_box(CONTROL), 0x01));
+    }
+    sum
+}
+
+fn crc_starts<B: Bench>(chip: &mut B) -> u64 {
+    (0..1000).map(|_| u64::from(chip.write(black_box(COMMAND), 0x12))).sum()
 }
 
 fn crc_bytes<B: Bench>(chip: &mut B) -> u64 {
@@ -194,17 +227,26 @@ struct Line {
 
 macro_rules! line {
     ($what:literal, $calls:literal, $prepare:expr, $round:ident) => {
-        Line { what: $what, calls: $calls as f64, prepare: $prepare, library: $round::<Memory>, plain: $round::<Chip>, judged: $round::<Judged> }
+        Line {
+            what: $what,
+            calls: $calls as f64,
+            prepare: $prepare,
+            library: $round::<Memory>,
+            plain: $round::<Chip>,
+            judged: $round::<Judged>,
+        }
     };
 }
 
-/// What is raced; the numbers are how many calls, or clocks, a round has.
-const LINES: [Line; 10] = [
+/// What is raced, beside the recorded mix; the numbers are how many calls, or clocks, a round has. The first is the driver's mix.
+const LINES: [Line; 12] = [
     line!("mix of host accesses: a command, its bytes, polls, the answer", 1000, &[], mix),
     line!("status poll (host read of PrimaryStatus)", 1000, &[], status_poll),
     line!("host read of a stored register", 1000, &[], register_reads),
     line!("host write of a stored register", 1000, &[], register_writes),
     line!("host write and host read of FIFOData, each", 1000, &[], fifo_pairs),
+    line!("host write of FIFOData to an Idle chip, a flush after 64", 975, &[], fifo_fills),
+    line!("CalcCRC, a start", 1000, &[], crc_starts),
     line!("CalcCRC, per byte written", 1000, &[(COMMAND, 0x12)], crc_bytes),
     line!("advance by 1,000 with the timer running, per call", 20, &[(0x2C, 255), (0x2A, 0x26), (CONTROL, 0x02)], advances),
     line!("advance by 1, per call", 1000, &[(0x2C, 255), (0x2A, 0x26), (CONTROL, 0x02)], single_clocks),
@@ -224,6 +266,17 @@ fn prepared<B: Bench>(chip: &mut B, prepare: &[(u8, u8)]) {
     }
 }
 
+/// The three chips, prepared alike.
+fn three(prepare: &[(u8, u8)]) -> (Memory, Chip, Judged) {
+    let mut library = Memory([0; SIZE]);
+    let mut plain = Chip::started(&[0; 512]).unwrap();
+    let mut judged = Judged(plain.clone());
+    prepared(&mut library, prepare);
+    prepared(&mut plain, prepare);
+    prepared(&mut judged, prepare);
+    (library, plain, judged)
+}
+
 fn timed<B>(round: Round<B>, chip: &mut B, least: &mut f64) -> u64 {
     let begin = Instant::now();
     let sum = black_box(round(chip));
@@ -231,24 +284,146 @@ fn timed<B>(round: Round<B>, chip: &mut B, least: &mut f64) -> u64 {
     sum
 }
 
-pub fn run() {
+/// A row of the table, from nanoseconds per call: the library, the plain chip that judges nothing, the one that judges.
+fn row(what: &str, [a, b, c]: [f64; 3]) {
+    println!("| {what} | {a:.2} | {c:.2} | {:.2} | {b:.2} | {:.2} |", a / c, a / b);
+}
+
+fn race(line: &Line) {
+    let (mut library, mut plain, mut judged) = three(line.prepare);
+    let mut least = [f64::MAX; 3];
+    for _ in 0..ROUNDS {
+        let a = timed(line.library, &mut library, &mut least[0]);
+        let b = timed(line.plain, &mut plain, &mut least[1]);
+        let c = timed(line.judged, &mut judged, &mut least[2]);
+        assert!(a == b && a == c, "{}: the chips answer differently", line.what);
+    }
+    row(line.what, least.map(|nanoseconds| nanoseconds / line.calls));
+}
+
+// ---- The recorded mix ------------------------------------------------------------------------------------------------------------------
+
+fn access<B: Bench>(chip: &mut B, access: &Access) -> u32 {
+    if access.reads {
+        chip.read(access.address)
+    } else {
+        chip.write(access.address, access.byte)
+    }
+}
+
+#[inline(never)]
+fn played<B: Bench>(chip: &mut B, piece: &[Access]) -> u64 {
+    piece.iter().map(|call| u64::from(access(chip, call))).sum()
+}
+
+fn timed_piece<B: Bench>(chip: &mut B, piece: &[Access], least: &mut f64) -> u64 {
+    let begin = Instant::now();
+    let sum = black_box(played(chip, black_box(piece)));
+    *least = least.min(begin.elapsed().as_nanos() as f64);
+    sum
+}
+
+/// The whole list on the three chips: every answer compared, one by one, and then its pieces timed in turn. The time of the list is the sum of the
+/// least that each piece took.
+fn race_recorded() {
+    let list = recorded();
+    let (mut library, mut plain, mut judged) = three(&[]);
+    for (place, call) in list.iter().enumerate() {
+        let answers = [access(&mut library, call), access(&mut plain, call), access(&mut judged, call)];
+        assert!(answers.iter().all(|answer| *answer == answers[0]), "the recorded mix: the chips answer differently at call {place}");
+    }
+    let mut least = vec![[f64::MAX; 3]; list.len().div_ceil(PIECE)];
+    for _ in 0..RECORDED_ROUNDS {
+        for (piece, least) in list.chunks(PIECE).zip(&mut least) {
+            let a = timed_piece(&mut library, piece, &mut least[0]);
+            let b = timed_piece(&mut plain, piece, &mut least[1]);
+            let c = timed_piece(&mut judged, piece, &mut least[2]);
+            assert!(a == b && a == c, "the recorded mix: the chips answer differently");
+        }
+    }
+    let sum = |chip: usize| least.iter().map(|least| least[chip]).sum::<f64>() / list.len() as f64;
+    row("recorded mix: a million host accesses from a seed", [sum(0), sum(1), sum(2)]);
+}
+
+// ---- Instructions ----------------------------------------------------------------------------------------------------------------------
+
+/// Bytes for an Idle chip, 64 at a time, and nothing else.
+fn fifo_writes<B: Bench>(chip: &mut B) -> u64 {
+    let mut sum = 0;
+    for byte in 0..16 * 64u32 {
+        if byte % 64 == 0 {
+            chip.empty();
+        }
+        sum += u64::from(chip.write(black_box(FIFO_DATA), byte as u8));
+    }
+    sum
+}
+
+/// From one end of the timer to the next.
+fn timer_lap<B: Bench>(chip: &mut B) -> u64 {
+    (0..64 * 255).map(|_| u64::from(chip.advance(black_box(1)))).sum()
+}
+
+/// The kinds of calls whose instructions tests/instructions counts, by the names that tests/instructions.c has, with the same calls.
+const COUNTED: [Line; 8] = [
+    line!("driver-mix", 1000, &[], mix),
+    line!("poll", 1000, &[], status_poll),
+    line!("fifo-write", 1024, &[], fifo_writes),
+    line!("crc-start", 1000, &[], crc_starts),
+    line!("crc-byte", 1000, &[(COMMAND, 0x12)], crc_bytes),
+    line!("register-read", 1000, &[], register_reads),
+    line!("register-write", 1000, &[], register_writes),
+    line!("advance", 16_320, &[(0x2C, 255), (0x2A, 0x26), (CONTROL, 0x02)], timer_lap),
+];
+
+/// Makes so many rounds of calls of one kind on a plain chip, `judging` or `judging-nothing`. Answers how many calls that were, if kind and chip are
+/// known.
+pub fn count(chip: &str, kind: &str, rounds: u64) -> Option<u64> {
+    let (mut plain, mut judged) = {
+        let (_, plain, judged) = three(&[]);
+        (plain, judged)
+    };
+    if kind == "recorded-mix" {
+        let list = recorded();
+        for _ in 0..rounds {
+            match chip {
+                "judging" => black_box(played(&mut judged, black_box(&list))),
+                "judging-nothing" => black_box(played(&mut plain, black_box(&list))),
+                _ => return None,
+            };
+        }
+        return Some(rounds * list.len() as u64);
+    }
+    let line = COUNTED.iter().find(|line| line.what == kind)?;
+    prepared(&mut plain, line.prepare);
+    prepared(&mut judged, line.prepare);
+    for _ in 0..rounds {
+        match chip {
+            "judging" => black_box((line.judged)(&mut judged)),
+            "judging-nothing" => black_box((line.plain)(&mut plain)),
+            _ => return None,
+        };
+    }
+    Some(rounds * line.calls as u64)
+}
+
+// ---- The tables ------------------------------------------------------------------------------------------------------------------------
+
+fn heading() {
     println!("| What | library, ns | plain Rust chip, ns | ratio | judging nothing, ns | ratio |");
     println!("|---|---:|---:|---:|---:|---:|");
-    for line in &LINES {
-        let mut library = Memory([0; SIZE]);
-        let mut plain = Chip::started(&[0; 512]).unwrap();
-        let mut judged = Judged(plain.clone());
-        prepared(&mut library, line.prepare);
-        prepared(&mut plain, line.prepare);
-        prepared(&mut judged, line.prepare);
-        let mut least = [f64::MAX; 3];
-        for _ in 0..ROUNDS {
-            let a = timed(line.library, &mut library, &mut least[0]);
-            let b = timed(line.plain, &mut plain, &mut least[1]);
-            let c = timed(line.judged, &mut judged, &mut least[2]);
-            assert!(a == b && a == c, "{}: the chips answer differently", line.what);
-        }
-        let [a, b, c] = least.map(|nanoseconds| nanoseconds / line.calls);
-        println!("| {} | {a:.2} | {c:.2} | {:.2} | {b:.2} | {:.2} |", line.what, a / c, a / b);
-    }
+}
+
+/// Everything that is raced.
+pub fn run() {
+    heading();
+    race_recorded();
+    LINES.iter().for_each(race);
+}
+
+/// The two mixes alone.
+pub fn mixes() {
+    heading();
+    race_recorded();
+    race(&LINES[0]);
 }

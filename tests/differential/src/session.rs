@@ -1,7 +1,7 @@
 //! Both chips side by side: a call is made on each, and everything that has to agree is compared.
 
 use crate::call::{first_memory, Call};
-use crate::chip_memory::{difference, place_name, plain_of, Memory};
+use crate::chip_memory::{difference, place_name, plain_of, reserved_is_zero, Memory};
 use crate::library;
 use crate::plain::{FaultyChip, Refusal};
 
@@ -30,9 +30,14 @@ pub struct Session<const FAULT: u8> {
 }
 
 impl<const FAULT: u8> Session<FAULT> {
-    /// Any memory: most likely no chip's state.
+    /// Any memory, from a seed: most likely no chip's state.
     pub fn new(memory: u64) -> Self {
-        let guarded = Guarded { before: [0xB4; 64], memory: first_memory(memory), after: [0x4B; 64] };
+        Self::of(first_memory(memory))
+    }
+
+    /// This memory.
+    pub fn of(memory: Memory) -> Self {
+        let guarded = Guarded { before: [0xB4; 64], memory, after: [0x4B; 64] };
         let (plain, malformed) = match plain_of(guarded.memory.chip()) {
             Ok(plain) => (Some(plain), ""),
             Err(reason) => (None, reason),
@@ -99,6 +104,9 @@ impl<const FAULT: u8> Session<FAULT> {
         }
         if let Call::Start { .. } = call {
             self.saved = None;
+            if !reserved_is_zero(self.guarded.memory.chip()) {
+                return Err("a start has left a reserved field that is not 0".to_string());
+            }
         }
         match &self.plain {
             Some(plain) => match difference(plain, self.guarded.memory.chip(), before.chip()) {

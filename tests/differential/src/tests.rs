@@ -2,11 +2,10 @@
 
 use crate::call::{Fill, Image};
 use crate::checksum::bit_by_bit;
-use crate::chip_memory::{difference, plain_of, store, Memory, SIZE};
-use crate::plain::{error, key_of, request, stored_nibble, Chip, Command, Refusal, Taken, Writing, PROGRAMMING_CLOCKS};
+use crate::chip_memory::{difference, place_name, places_of, plain_of, store, Memory, FIELDS, SIZE};
+use crate::plain::{error, fault, key_of, request, stored_nibble, Chip, Command, Refusal, Taken, Writing, PROGRAMMING_CLOCKS};
 use crate::random::Random;
 use crate::registers::*;
-
 
 /// A started chip with paging off.
 fn chip_with(image: &[u8]) -> Chip {
@@ -473,8 +472,7 @@ fn clocks_one_by_one() {
         chip.advance(clocks).unwrap();
         (0..clocks).for_each(|_| single.advance(1).unwrap());
         let mut memory = Memory([0; SIZE]);
-        // SAFETY: the memory is a whole chip's, and only this reference is used.
-        store(&single, round as u8, unsafe { &mut *memory.as_mut_ptr() });
+        store(&single, round as u8, memory.chip_mut());
         assert_eq!(difference(&chip, memory.chip(), memory.chip()), None);
     }
 }
@@ -487,8 +485,7 @@ fn stored_and_read_back() {
     chip.pass(PROGRAMMING_CLOCKS + 5);
     for position in [0, 63, 200, 255] {
         let mut memory = Memory([0xFF; SIZE]);
-        // SAFETY: as above.
-        store(&chip, position, unsafe { &mut *memory.as_mut_ptr() });
+        store(&chip, position, memory.chip_mut());
         let back: Chip = plain_of(memory.chip()).unwrap();
         assert_eq!(difference(&back, memory.chip(), memory.chip()), None);
         assert_eq!(back.fifo.bytes().collect::<Vec<_>>(), chip.fifo.bytes().collect::<Vec<_>>());
@@ -496,15 +493,200 @@ fn stored_and_read_back() {
     }
 }
 
+// ---- Refusal 7 -------------------------------------------------------------------------------------------------------------------------
+
+/// A started chip's memory with these fields, by the lists' names.
+fn memory_with(fields: &str) -> Memory {
+    let mut memory = Memory([0; SIZE]);
+    store(&chip(), 0, memory.chip_mut());
+    let list = crate::call::parse(&format!("corrupt {fields}")).unwrap();
+    let [crate::call::Call::Corrupt { edits }] = &list.calls[..] else { panic!("{fields}") };
+    edits.iter().for_each(|(place, byte)| memory.0[usize::from(*place)] = *byte);
+    memory
+}
+
+fn well_formed(fields: &str) -> bool {
+    plain_of::<{ fault::NONE }>(memory_with(fields).chip()).is_ok()
+}
+
+/// Document 01's "programming clocks left are 0 to 78,648, above 0 exactly when 1 to 16 latched bytes wait inside one block at 010h or above and
+/// WriteE2 is active; .. the next address is below 200h".
+#[test]
+fn clocks_left_are_judged() {
+    // Stage, latched count, clocks left, next address; whether that is a chip's state.
+    let cases = [
+        // A batch that fits, with clocks and without, with bit 6 of the stage and without.
+        (0x41, 16, 1, 0x020, true),
+        (0x41, 16, 78_648, 0x020, true),
+        (0x41, 16, 78_649, 0x020, false),
+        (0x41, 16, 0, 0x020, false),
+        (0x01, 16, 1, 0x020, true),
+        (0x01, 16, 0, 0x020, false),
+        (0x41, 1, 1, 0x011, true),
+        (0x41, 1, 0, 0x011, false),
+        // The last block, whose batch ends where 000h follows.
+        (0x41, 16, 1, 0x000, true),
+        (0x41, 1, 1, 0x000, true),
+        (0x41, 1, 0, 0x000, false),
+        // No batch: block 0, two blocks, no bytes, over 16.
+        (0x41, 1, 1, 0x010, false),
+        (0x41, 1, 0, 0x010, true),
+        (0x41, 16, 1, 0x010, false),
+        (0x41, 1, 1, 0x001, false),
+        (0x41, 2, 1, 0x021, false),
+        (0x41, 2, 0, 0x021, true),
+        (0x41, 0, 1, 0x020, false),
+        (0x41, 0, 0, 0x020, true),
+        (0x41, 17, 1, 0x020, false),
+        (0x41, 17, 0, 0x020, true),
+        (0x01, 255, 0, 0x020, true),
+        // Without WriteE2 a latched count is nobody's, and clocks left are malformed.
+        (0x00, 16, 0, 0x020, true),
+        (0x12, 16, 0, 0x020, true),
+        (0x9E, 255, 0, 0x1FF, true),
+        (0x00, 16, 1, 0x020, false),
+        (0x12, 16, 1, 0x020, false),
+        (0x00, 0, 1, 0x020, false),
+        // The next address, whatever the command.
+        (0x41, 0, 0, 0x1FF, true),
+        (0x41, 0, 0, 0x200, false),
+        (0x00, 0, 0, 0x1FF, true),
+        (0x00, 0, 0, 0x200, false),
+        (0x12, 0, 0, 0xFFFF, false),
+        // 81h is no stage, as nothing is that is not listed.
+        (0x81, 16, 1, 0x020, false),
+        (0x81, 0, 0, 0x020, false),
+        (0xC1, 16, 1, 0x020, false),
+    ];
+    for (stage, latched, left, next, wanted) in cases {
+        let fields = format!("stage={stage:X} latched={latched:X} programming_left={left:X} next_address={next:X}");
+        assert_eq!(well_formed(&fields), wanted, "{fields}");
+    }
+}
+
+/// "no command could take waiting bytes, or end over them, at once": as many may wait, and no more. Other stages are malformed.
+#[test]
+fn waiting_bytes_are_judged() {
+    let mut most = [None; 256];
+    for (stage, bytes) in [(0x00, 64), (0x01, 1), (0x41, 0), (0x03, 2), (0x07, 1), (0x0B, 1), (0x12, 0), (0x19, 11)] {
+        most[stage] = Some(bytes);
+    }
+    for stage in [0x5A, 0x96, 0x5E, 0x9E] {
+        most[stage] = Some(64);
+    }
+    for (stage, most) in most.iter().enumerate() {
+        for held in 0..=255 {
+            let fields = format!("stage={stage:X} fifo_read=F0 fifo_write={:X}", 0xF0u8.wrapping_add(held));
+            assert_eq!(well_formed(&fields), most.is_some_and(|most| held <= most), "{fields}");
+        }
+    }
+    assert!(well_formed("stage=41 latched=1 programming_left=1 next_address=20 fifo_write=40"));
+    assert!(well_formed("stage=01 latched=1 programming_left=1 next_address=20 fifo_write=40"));
+    assert!(!well_formed("stage=01 latched=1 programming_left=1 next_address=20 fifo_write=41"));
+}
+
+#[test]
+fn other_fields_are_judged() {
+    let well = [
+        "timer_running=1 timer_value=1",
+        "timer_running=1 timer_value=FF timer_prescaler=15 timer_phase=1FFFFF",
+        "timer_value=FF",
+        "crc_register=FFFF",
+        "crc_register=FF crc_mode=10",
+        "crc_register=FFFF crc_mode=EF",
+        "interrupt_en=3F interrupt_rq=3F error_flag=7A page=87 control=30 rx_last_bits=7 key_loaded=1 bit_framing=FF",
+        "reserved_numbers=FFFFFFFFFFFFFFFF reserved_11=FF reserved_17=FFFFFFFFFFFFFF padding+0=FF padding+1=FF",
+    ];
+    let malformed = [
+        "timer_running=1",
+        "timer_running=2 timer_value=1",
+        "timer_running=1 timer_value=1 timer_prescaler=16",
+        "timer_running=1 timer_value=1 timer_prescaler=20",
+        "timer_running=1 timer_value=1 timer_prescaler=FF",
+        "timer_running=1 timer_value=1 timer_phase=1",
+        "timer_running=1 timer_value=1 timer_prescaler=15 timer_phase=200000",
+        "timer_prescaler=1",
+        "timer_phase=1",
+        "crc_register=100 crc_mode=10",
+        "crc_register=FFFF crc_mode=FF",
+        "interrupt_en=40",
+        "interrupt_en=80",
+        "interrupt_rq=40",
+        "interrupt_rq=80",
+        "error_flag=1",
+        "error_flag=4",
+        "error_flag=80",
+        "page=8",
+        "page=40",
+        "control=1",
+        "control=40",
+        "rx_last_bits=8",
+        "key_loaded=2",
+    ];
+    well.iter().for_each(|fields| assert!(well_formed(fields), "{fields}"));
+    malformed.iter().for_each(|fields| assert!(!well_formed(fields), "{fields}"));
+}
+
+/// A programming whose stage has no address goes on as one that has: there is one machine for both.
+#[test]
+fn programming_at_stage_01() {
+    let memory = memory_with("stage=01 latched=2 programming_left=5 next_address=22 latch[00h]=AA latch[01h]=BB");
+    let mut chip: Chip = plain_of(memory.chip()).unwrap();
+    assert_eq!(chip.command, Command::WriteE2(Writing::Programming { next: 0x022, latched: 2, left: 5 }));
+    chip.pass(5);
+    assert_eq!((chip.command, chip.eeprom[0x020..0x023].to_vec()), (Command::WriteE2(Writing::Ready { next: 0x022 }), vec![0xAA, 0xBB, 0]));
+}
+
+/// The built states notice what the judging could have wrong.
+#[test]
+fn built_states_notice_wrong_judging() {
+    macro_rules! noticed {
+        ($($fault:ident)*) => {
+            $(assert!(crate::built::judged::<{ fault::$fault }>(1).is_err(), stringify!($fault));)*
+        };
+    }
+    noticed!(FULL_PHASE_IS_WELL_FORMED LEFT_OVER_COUNT_IS_MALFORMED BATCH_WITHOUT_CLOCKS_IS_WELL_FORMED STAGE_01_DOES_NOT_PROGRAM);
+    noticed!(STAGE_81_IS_LISTED NEXT_ADDRESS_JUDGED_FOR_WRITE_E2_ALONE RESERVED_IS_JUDGED);
+}
+
+/// Every byte has a name that leads back to it, and every field a name for all of its bytes.
+#[test]
+fn places_have_names() {
+    for place in 0..SIZE {
+        assert_eq!(places_of(&place_name(place)), Some(place..place + 1), "{}", place_name(place));
+    }
+    for (name, start, length) in FIELDS {
+        assert_eq!(places_of(name), Some(*start..start + length));
+    }
+    for name in ["", "core", "stage+1", "latch[10h]", "registers[0Fh]", "registers[30h]", "padding+2", "eeprom[200h]"] {
+        assert_eq!(places_of(name), None, "{name}");
+    }
+    assert!(crate::call::parse("corrupt stage=100").is_err());
+}
+
 // ---- The comparison --------------------------------------------------------------------------------------------------------------------
 
 /// The comparison can fail: each planted fault is noticed, and by random calls alone.
 #[test]
 fn planted_faults_are_noticed() {
-    let options = crate::Options { calls: 1_000_000, seed: 1, trace: false, random: true, replay: None, race: false, faults: Vec::new() };
+    let options = crate::Options { random: true, ..crate::Options::default() };
     for fault in 1..=crate::plain::fault::NAMES.len() as u8 {
         assert!(crate::notice(fault, &options));
     }
+}
+
+/// The recorded mix is the list that docs/PERFORMANCE.md describes.
+#[test]
+fn recorded_mix() {
+    let list = crate::recorded::recorded();
+    let count = |reads: bool, address: u8, code: Option<u8>| {
+        list.iter().filter(|call| (call.reads, call.address) == (reads, address) && code.is_none_or(|code| call.byte == code)).count()
+    };
+    let shares = [(false, FIFO_DATA, None), (true, PRIMARY_STATUS, None), (false, COMMAND, Some(0x12)), (false, COMMAND, Some(0x00))];
+    assert_eq!(shares.map(|(reads, address, code)| count(reads, address, code)), [500_398, 399_862, 99_740, 20_000]);
+    // tests/instructions.c holds its list to the same sum.
+    let sum = list.iter().fold(0u64, |sum, call| sum.wrapping_mul(31).wrapping_add(u64::from(call.byte) + 256 * u64::from(call.address)));
+    assert_eq!(sum, 11_792_938_449_016_268_530);
 }
 
 /// What is printed can be read again.

@@ -4,6 +4,7 @@ use native.Mathlib.Omega.{arith}
 use mathlib.Core.Path.{_≡_, refl, sym, ap, _∙_}
 use mathlib.Core.Bool.{Bool, true}
 use mathlib.Core.List.{[]}
+use mathlib.Core.Logic.{⊎-elim}
 use borrow.Author.Tests.{lt-ltb, le-ltb, not-true, not-false}
 use Rattle.machine.specs.Refusals.{advance, refuseIf, clockLimit}
 use Rattle.state.specs.View.{viewOf}
@@ -12,35 +13,43 @@ use Rattle.state.specs.Lent.{assembled}
 use Rattle.state.specs.Meets.{Whole}
 use Rattle.state.specs.declared.Chip.{Chip}
 use Rattle.state.proofs.MeetLaws.{refused, malformed, advance-refusal, own-fields-formed, machine-formed, accepted-here}
+use Rattle.state_formed.proofs.ClauseLaws.{usual-formed}
 use borrow.Author.Needs.{needs}
 use Rattle.event_clock_advance.proofs.advance.Statement.{statement}
 use Rattle.event_clock_advance.proofs.advance.Tie as tie
 
-judged-requires : tie.Need-judged-requires
-judged-requires c κs = search needs
+quick-requires : tie.Need-quick-requires
+quick-requires c κs = search needs
+
+formed-requires : tie.Need-formed-requires
+formed-requires c κs = search needs
 
 abbrev at-entry : tie.Start → Chip
 at-entry s =
     let a = s .args in assembled (now (a .clocks)) (now (a .numbers)) (now (a .state)) (now (a .registers)) (now (a .slots)) (now (a .latch)) (now (a .key)) (now (a .eeprom))
 
--- Past the first test: where the function began, and that the chip is well formed.
-abbrev began : tie.Else1 → tie.Start
+-- Past the quick test, or past every clause: where the function began, and that the chip is well formed.
+abbrev began : tie.Joined1 → tie.Start
 began past = past .before .before .before .before .before
 
-well-formed : (past : tie.Else1) → Whole (at-entry (began past)) → chipFormed (at-entry (began past)) ≡ true
-well-formed past whole = sym (past .before .judged .ensures (at-entry (began past)) (whole .sizes)) ∙ not-false _ (past .if1 .left)
+well-formed : (past : tie.Joined1) → Whole (at-entry (began past)) → chipFormed (at-entry (began past)) ≡ true
+well-formed past whole =
+    let old = at-entry (began past) in
+    ⊎-elim (λ x. sym (x .4 .ensures old (whole .sizes)) ∙ not-false _ (x .5 .left))
+    (λ x. usual-formed old (whole .sizes) (sym (past .before .quick .ensures old) ∙ not-false _ (x .left)))
+    (past .if1 .came)
 
 returns : tie.Need-returns
 returns c whole =
-    let s = c .before .before .before .before .before in
+    let s = c .before .before .before .before .before .before .before .before .before .before in
     let old = at-entry s in
-    malformed old (advance (s .args .by)) tt (sym (c .before .judged .ensures old (whole .sizes)) ∙ not-true _ (c .if1 .taken)) whole
+    malformed old (advance (s .args .by)) tt (sym (c .before .formed .ensures old (whole .sizes)) ∙ not-true _ (c .if2 .taken)) whole
 
 returns-2 : tie.Need-returns-2
 returns-2 c whole =
     let s = began (c .before) in
     refused (at-entry s) (advance (s .args .by)) 2
-    (advance-refusal (at-entry s) (well-formed (c .before) whole) (s .args .by) 3 (ap (λ (t : Bool). refuseIf t 3 0) (lt-ltb clockLimit (s .args .by) (omega (arith, c .if2 .taken)))) .0) whole
+    (advance-refusal (at-entry s) (well-formed (c .before) whole) (s .args .by) 3 (ap (λ (t : Bool). refuseIf t 3 0) (lt-ltb clockLimit (s .args .by) (omega (arith, c .if3 .taken)))) .0) whole
 
 advanced-requires : tie.Need-advanced-requires
 advanced-requires c κs = search needs
@@ -58,8 +67,8 @@ returns-3 c whole =
     let next = assembled (after .0) (after .1 .0) (after .1 .1 .0) (now (a .registers)) (now (a .slots)) (after .1 .1 .1 .1 .1 .0) (now (a .key)) (after .1 .1 .1 .1 .1 .1 .0) in
     let runs = c .advanced .ensures old (whole .sizes) agrees (machine-formed old formed whole) in
     accepted-here old formed (advance (a .by)) next 0 [] tt whole
-    (advance-refusal old formed (a .by) 0 (ap (λ (t : Bool). refuseIf t 3 0) (le-ltb clockLimit (a .by) (omega (arith, past .if2 .left)))))
+    (advance-refusal old formed (a .by) 0 (ap (λ (t : Bool). refuseIf t 3 0) (le-ltb clockLimit (a .by) (omega (arith, past .if3 .left)))))
     (record { answered = refl; turned = runs .machine; lent = refl; fields = runs .fields agrees; sizes = runs .sizes })
 
 pub advance-spec : {M : Type 1} → statement M
-advance-spec = tie.close (tie.spec judged-requires returns returns-2 advanced-requires returns-3)
+advance-spec = tie.close (tie.spec quick-requires formed-requires returns returns-2 advanced-requires returns-3)

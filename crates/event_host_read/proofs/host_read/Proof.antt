@@ -5,6 +5,7 @@ use denote.Ref.{now}
 use native.Mathlib.Omega.{arith}
 use mathlib.Core.Path.{_≡_, sym, ap, _∙_}
 use mathlib.Core.Bool.{Bool, true}
+use mathlib.Core.Logic.{⊎-elim}
 use Rattle.machine.specs.Refusals.{hostRead, refuseIf}
 use Rattle.machine.specs.Registers.{registerRead}
 use Rattle.state.specs.View.{view, viewOf, withState}
@@ -13,6 +14,7 @@ use Rattle.state.specs.Lent.{clocksNumbersStateRegistersSlots}
 use Rattle.state.specs.Meets.{Whole}
 use Rattle.state.specs.declared.Chip.{Chip}
 use Rattle.state.proofs.MeetLaws.{refused, malformed, read-refusal}
+use Rattle.state_formed.proofs.ClauseLaws.{usual-formed}
 use Rattle.event_host_read.proofs.ReadLaws.{read-as, Passes, read-removes, read-leaves}
 use Rattle.event_host_read.proofs.host_read.Statement.{statement}
 use Rattle.event_host_read.proofs.host_read.Tie as tie
@@ -21,14 +23,15 @@ use Rattle.event_host_read.proofs.host_read.Tie as tie
 abbrev at-entry : tie.Start → Chip → Chip
 at-entry s = let a = s .args in clocksNumbersStateRegistersSlots (now (a .clocks)) (now (a .numbers)) (now (a .state)) (now (a .registers)) (now (a .slots))
 
--- It is judged, and past the first test it is well formed.
-judgement : (call : tie.After-judged) (chip : Chip) → Whole (at-entry (call .before .before) chip) → call .judged .result ≡ chipFormed (at-entry (call .before .before) chip)
-judgement call chip whole = call .judged .ensures (at-entry (call .before .before) chip) (whole .sizes)
+-- Past the quick test, or past every clause, it is well formed.
+well-formed : (past : tie.Joined1) (chip : Chip) → Whole (at-entry (past .before .before .before) chip) → chipFormed (at-entry (past .before .before .before) chip) ≡ true
+well-formed past chip whole =
+    let old = at-entry (past .before .before .before) chip in
+    ⊎-elim (λ x. sym (x .2 .ensures old (whole .sizes)) ∙ not-false _ (x .3 .left))
+    (λ x. usual-formed old (whole .sizes) (sym (past .before .quick .ensures old) ∙ not-false _ (x .left)))
+    (past .if1 .came)
 
-well-formed : (past : tie.Else1) (chip : Chip) → Whole (at-entry (past .before .before .before) chip) → chipFormed (at-entry (past .before .before .before) chip) ≡ true
-well-formed past chip whole = sym (judgement (past .before) chip whole) ∙ not-false _ (past .if1 .left)
-
--- Past both tests, with the register found.
+-- Past the address's test too, with the register found.
 abbrev began : tie.After-mapped → tie.Start
 began found = found .before .before .before .before .before .before
 
@@ -36,13 +39,18 @@ passes : (found : tie.After-mapped) (chip : Chip) → Whole (at-entry (began fou
 unfolding viewOf
 passes found chip whole =
     let past = found .before .before in
-    record { formed = well-formed (past .before) chip whole; whole = whole; low = omega (arith, past .if2 .left); is = found .mapped .ensures }
+    record { formed = well-formed (past .before) chip whole; whole = whole; low = omega (arith, past .if3 .left); is = found .mapped .ensures }
 
-judged-requires : tie.Need-judged-requires
-judged-requires c κs = search needs
+quick-requires : tie.Need-quick-requires
+quick-requires c κs = search needs
+
+formed-requires : tie.Need-formed-requires
+formed-requires c κs = search needs
 
 returns : tie.Need-returns
-returns c chip whole = malformed (at-entry (c .before .before .before) chip) (hostRead _) tt (sym (judgement (c .before) chip whole) ∙ not-true _ (c .if1 .taken)) whole
+returns c chip whole =
+    let old = at-entry (c .before .before .before .before .before .before) chip in
+    malformed old (hostRead _) tt (sym (c .before .formed .ensures old (whole .sizes)) ∙ not-true _ (c .if2 .taken)) whole
 
 returns-2 : tie.Need-returns-2
 returns-2 c chip whole =
@@ -50,7 +58,7 @@ returns-2 c chip whole =
     let old = at-entry start chip in
     let address = start .args .address in
     refused old (hostRead _) 0
-    (read-refusal old (well-formed (c .before) chip whole) address 1 (ap (λ (t : Bool). refuseIf t 1 0) (lt-ltb 63 address (omega (arith, c .if2 .taken)))) .0) whole
+    (read-refusal old (well-formed (c .before) chip whole) address 1 (ap (λ (t : Bool). refuseIf t 1 0) (lt-ltb 63 address (omega (arith, c .if3 .taken)))) .0) whole
 
 element-copy-out-mapped : tie.Need-element-copy-out-mapped
 element-copy-out-mapped c = search needs
@@ -74,7 +82,7 @@ returns-3 c chip whole =
     let found = third .before in
     let old = at-entry (began found) chip in
     let passed = passes found chip whole in
-    read-leaves passed _ (λ e. omega (arith, e, third .if3 .taken)) (read-as _ 0x03 _ (view old) (third .if3 .taken) (c .primary-status .ensures old (passed .formed)))
+    read-leaves passed _ (λ e. omega (arith, e, third .if4 .taken)) (read-as _ 0x03 _ (view old) (third .if4 .taken) (c .primary-status .ensures old (passed .formed)))
 
 fifo-read-requires : tie.Need-fifo-read-requires
 fifo-read-requires c κs = search needs
@@ -91,7 +99,7 @@ returns-4 c chip whole =
     let fourth = c .before .before in
     let found = fourth .before .before in
     let old = at-entry (began found) chip in
-    read-removes (passes found chip whole) (withState (c .fifo-read .last .0) old) _ (fourth .if4 .taken) (c .fifo-read .ensures .0 old) (c .fifo-read .ensures .1 old (whole .sizes))
+    read-removes (passes found chip whole) (withState (c .fifo-read .last .0) old) _ (fourth .if5 .taken) (c .fifo-read .ensures .0 old) (c .fifo-read .ensures .1 old (whole .sizes))
 
 read-requires : tie.Need-read-requires
 read-requires c κs = search needs
@@ -108,13 +116,14 @@ returns-5 c chip whole =
     let other = c .before .before in
     let found = other .before .before in
     let passed = passes found chip whole in
-    read-leaves passed _ (other .if4 .left) (c .read .ensures (other .if4 .left) (other .before .if3 .left) (at-entry (began found) chip) (passed .formed))
+    read-leaves passed _ (other .if5 .left) (c .read .ensures (other .if5 .left) (other .before .if4 .left) (at-entry (began found) chip) (passed .formed))
 
 pub host-read-spec : {M : Type 1} → statement M
 host-read-spec =
     tie.close
     (tie.spec
-    judged-requires
+    quick-requires
+    formed-requires
     returns
     returns-2
     element-copy-out-mapped

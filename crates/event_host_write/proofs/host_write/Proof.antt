@@ -5,6 +5,7 @@ use denote.Ref.{now}
 use native.Mathlib.Omega.{arith}
 use mathlib.Core.Path.{_≡_, sym, ap, _∙_}
 use mathlib.Core.Bool.{Bool, true}
+use mathlib.Core.Logic.{⊎-elim}
 use Rattle.machine.specs.Refusals.{Call, hostWrite, refuseIf}
 use Rattle.state.specs.View.{viewOf}
 use Rattle.state.specs.Formed.{chipFormed}
@@ -13,6 +14,7 @@ use Rattle.state.specs.Meets.{Whole}
 use Rattle.state.specs.declared.Chip.{Chip}
 use Rattle.state.proofs.RingLaws.{count-length}
 use Rattle.state.proofs.MeetLaws.{refused, malformed, write-refusal}
+use Rattle.state_formed.proofs.ClauseLaws.{usual-formed}
 use Rattle.event_host_write.proofs.WriteLaws.{Passes, data-worked, data-summed, data-waits, command-worked, command-begins, other-wrote}
 use Rattle.event_host_write.proofs.host_write.Statement.{statement}
 use Rattle.event_host_write.proofs.host_write.Tie as tie
@@ -24,17 +26,18 @@ at-entry s = let a = s .args in assembled (now (a .clocks)) (now (a .numbers)) (
 abbrev called : tie.Start → Call
 called s = hostWrite (s .args .address) (s .args .v)
 
--- It is judged, and past the first test it is well formed.
-abbrev entered : tie.After-judged → tie.Start
+-- Past the quick test, or past every clause, it is well formed.
+abbrev entered : tie.After-quick → tie.Start
 entered call = call .before .before .before .before
 
-judgement : (call : tie.After-judged) → Whole (at-entry (entered call)) → call .judged .result ≡ chipFormed (at-entry (entered call))
-judgement call whole = call .judged .ensures (at-entry (entered call)) (whole .sizes)
+well-formed : (past : tie.Joined1) → Whole (at-entry (entered (past .before))) → chipFormed (at-entry (entered (past .before))) ≡ true
+well-formed past whole =
+    let old = at-entry (entered (past .before)) in
+    ⊎-elim (λ x. sym (x .4 .ensures old (whole .sizes)) ∙ not-false _ (x .5 .left))
+    (λ x. usual-formed old (whole .sizes) (sym (past .before .quick .ensures old) ∙ not-false _ (x .left)))
+    (past .if1 .came)
 
-well-formed : (past : tie.Else1) → Whole (at-entry (entered (past .before))) → chipFormed (at-entry (entered (past .before))) ≡ true
-well-formed past whole = sym (judgement (past .before) whole) ∙ not-false _ (past .if1 .left)
-
--- Past both tests, with the register found.
+-- Past the address's test too, with the register found.
 abbrev began : tie.After-mapped → tie.Start
 began found = entered (found .before .before .before .before)
 
@@ -43,15 +46,19 @@ passes : (found : tie.After-mapped) → Whole (at-entry (began found)) →
 unfolding viewOf
 passes found whole =
     let past = found .before .before in
-    record { formed = well-formed (past .before) whole; whole = whole; low = omega (arith, past .if2 .left); byte = began found .fits .v .fits; is = found .mapped .ensures }
+    record { formed = well-formed (past .before) whole; whole = whole; low = omega (arith, past .if3 .left); byte = began found .fits .v .fits; is = found .mapped .ensures }
 
-judged-requires : tie.Need-judged-requires
-judged-requires c κs = search needs
+quick-requires : tie.Need-quick-requires
+quick-requires c κs = search needs
+
+formed-requires : tie.Need-formed-requires
+formed-requires c κs = search needs
 
 returns : tie.Need-returns
 returns c whole =
-    let call = c .before in
-    malformed (at-entry (entered call)) (called (entered call)) tt (sym (judgement call whole) ∙ not-true _ (c .if1 .taken)) whole
+    let clauses = c .before in
+    let s = entered (clauses .before .before .before .before .before) in
+    malformed (at-entry s) (called s) tt (sym (clauses .formed .ensures (at-entry s) (whole .sizes)) ∙ not-true _ (c .if2 .taken)) whole
 
 returns-2 : tie.Need-returns-2
 returns-2 c whole =
@@ -59,7 +66,7 @@ returns-2 c whole =
     let address = s .args .address in
     refused (at-entry s) (called s) 0
     (write-refusal (at-entry s) (well-formed (c .before) whole) address (s .args .v) 1
-    (ap (λ (t : Bool). refuseIf t 1 0) (lt-ltb 63 address (omega (arith, c .if2 .taken)))) .0) whole
+    (ap (λ (t : Bool). refuseIf t 1 0) (lt-ltb 63 address (omega (arith, c .if3 .taken)))) .0) whole
 
 element-copy-out-mapped : tie.Need-element-copy-out-mapped
 element-copy-out-mapped c = search needs
@@ -80,7 +87,7 @@ returns-3 c whole =
     let found = third .before in
     let old = at-entry (began found) in
     let fed = c .checksum-fed in
-    data-summed (passes found whole) (numbersState (fed .last .0) (fed .last .1 .0) old) (third .if3 .taken) (tested .if4 .taken) (fed .ensures old (whole .sizes))
+    data-summed (passes found whole) (numbersState (fed .last .0) (fed .last .1 .0) old) (third .if4 .taken) (tested .if5 .taken) (fed .ensures old (whole .sizes))
 
 fifo-written-requires : tie.Need-fifo-written-requires
 fifo-written-requires c κs = search needs
@@ -92,7 +99,7 @@ returns-4 c whole =
     let found = third .before in
     let old = at-entry (began found) in
     let stored = c .fifo-written in
-    data-waits (passes found whole) (stateSlots (stored .last .0) (stored .last .1 .1 .0) old) (third .if3 .taken) (tested .if5 .taken) (stored .ensures old (whole .sizes))
+    data-waits (passes found whole) (stateSlots (stored .last .0) (stored .last .1 .1 .0) old) (third .if4 .taken) (tested .if6 .taken) (stored .ensures old (whole .sizes))
 
 fifo-worked-requires : tie.Need-fifo-worked-requires
 fifo-worked-requires c κs = search needs
@@ -103,7 +110,7 @@ returns-5 c whole =
     let found = third .before in
     let l = c .fifo-worked .last in
     let next = assembled (l .0) (l .1 .0) (l .1 .1 .0) (l .1 .1 .1 .0) (l .1 .1 .1 .1 .0) (l .1 .1 .1 .1 .1 .0) (l .1 .1 .1 .1 .1 .1 .0) (now (began found .args .eeprom)) in
-    data-worked (passes found whole) next (third .if3 .taken) (c .fifo-worked .ensures (whole .sizes))
+    data-worked (passes found whole) next (third .if4 .taken) (c .fifo-worked .ensures (whole .sizes))
 
 held-requires : tie.Need-held-requires
 held-requires c κs = search needs
@@ -127,8 +134,8 @@ returns-6 c whole =
     let found = sixth .before .before in
     let old = at-entry (began found) in
     let begun = c .checksum-begun in
-    let test = sym (asked .begins-checksum .ensures) ∙ tested .if7 .taken in
-    command-begins (passes found whole) (numbersState (begun .last .0) (begun .last .1 .0) old) (sixth .if6 .taken)
+    let test = sym (asked .begins-checksum .ensures) ∙ tested .if8 .taken in
+    command-begins (passes found whole) (numbersState (begun .last .0) (begun .last .1 .0) old) (sixth .if7 .taken)
     (counted .held .result) (count-length (counted .held .ensures) (old .slots)) test (λ none. begun .ensures old none (whole .sizes))
 
 command-worked-requires : tie.Need-command-worked-requires
@@ -140,7 +147,7 @@ returns-7 c whole =
     let found = sixth .before .before in
     let l = c .command-worked .last in
     let next = assembled (l .0) (l .1 .0) (l .1 .1 .0) (l .1 .1 .1 .0) (l .1 .1 .1 .1 .0) (l .1 .1 .1 .1 .1 .0) (l .1 .1 .1 .1 .1 .1 .0) (now (began found .args .eeprom)) in
-    command-worked (passes found whole) next (sixth .if6 .taken) (c .command-worked .ensures (whole .sizes))
+    command-worked (passes found whole) next (sixth .if7 .taken) (c .command-worked .ensures (whole .sizes))
 
 register-written-requires : tie.Need-register-written-requires
 register-written-requires c κs = search needs
@@ -152,14 +159,15 @@ returns-8 c whole =
     let found = third .before in
     let old = at-entry (began found) in
     let written = c .register-written in
-    other-wrote (passes found whole) (clocksStateRegisters (written .last .0) (written .last .1 .0) (written .last .1 .1 .0) old) (sixth .if6 .left) (third .if3 .left)
+    other-wrote (passes found whole) (clocksStateRegisters (written .last .0) (written .last .1 .0) (written .last .1 .1 .0) old) (sixth .if7 .left) (third .if4 .left)
     (written .ensures old (whole .sizes))
 
 pub host-write-spec : {M : Type 1} → statement M
 host-write-spec =
     tie.close
     (tie.spec
-    judged-requires
+    quick-requires
+    formed-requires
     returns
     returns-2
     element-copy-out-mapped

@@ -1,13 +1,44 @@
--- `state_formed::quick` meets its contract: where it passes, all clauses hold. Assumes nothing.
+-- `state_formed::quick` meets its contract, test by test. Assumes nothing.
 use denote.Ref.{now}
-use mathlib.Core.Path.{sym, _∙_}
-use mathlib.Core.Bool.{false≢true}
+use mathlib.Core.Path.{_≡_, refl, sym, ap, _∙_}
+use mathlib.Core.Bool.{Bool, _&&_}
+use lib.Dec.{eqb, ltb}
 use borrow.Author.Needs.{needs}
-use borrow.Author.Tests.{not-false}
-use Rattle.state.specs.Lent.{clocksNumbersState}
-use Rattle.state_formed.proofs.ClauseLaws.{quickly}
+use borrow.Author.Tests.{eq-eqb, ne-eqb, lt-ltb, le-ltb, not-true, not-false}
+use Rattle.state.specs.View.{Core, coreOf, heldCount}
+use Rattle.state_formed.specs.Judged.{timerFieldsFormed, restsWith, usual}
+use Rattle.state_formed.proofs.ByteLaws.{joined}
 use Rattle.state_formed.proofs.quick.Statement.{statement}
 use Rattle.state_formed.proofs.quick.Tie as tie
+
+-- The fields at entry.
+abbrev fields : tie.Start → Core
+fields s = let a = s .args in coreOf (now (a .clocks)) (now (a .numbers)) (now (a .state))
+
+-- Before the first test.
+abbrev worded : tie.After-both → tie.After-word
+worded call = call .before .before
+
+abbrev began : tie.After-both → tie.Start
+began call = worded call .before .before .before .before .before .before .before .before .before
+
+-- What is left to be asked after it, and after the third.
+usually : (call : tie.After-both) {t : Bool} → let k = fields (began call) in eqb (call .both .result) 0 ≡ t →
+    usual k ≡ (t && (ltb (k .next) 0x200 && (restsWith (k .stage) (heldCount (k .read) (k .write)) && timerFieldsFormed (k .running) (k .value) (k .prescaler) (k .phase))))
+usually call is = joined (joined (sym (worded call .word .ensures)) refl ∙ sym (call .both .ensures) ∙ is) refl
+
+abbrev both-asked : tie.After-rests → tie.After-both
+both-asked call = call .before .before .before .before .before .before
+
+resting : (call : tie.After-rests) {t : Bool} → let k = fields (began (both-asked call)) in call .rests .result ≡ t →
+    usual k ≡ (t && timerFieldsFormed (k .running) (k .value) (k .prescaler) (k .phase))
+resting call is =
+    let holding = call .before in
+    let near = holding .before .before in
+    let calm = near .before .before in
+    let k = fields (began (both-asked call)) in
+    usually (calm .before) (eq-eqb _ 0 (calm .if1 .left))
+    ∙ joined (lt-ltb (k .next) 0x200 (near .if2 .left)) (joined (ap (restsWith (k .stage)) (sym (holding .held .ensures .counted)) ∙ sym (call .rests .ensures) ∙ is) refl)
 
 element-copy-out-word : tie.Need-element-copy-out-word
 element-copy-out-word c = search needs
@@ -43,13 +74,15 @@ both-requires : tie.Need-both-requires
 both-requires c κs = search needs
 
 returns : tie.Need-returns
-returns c passes = absurd (false≢true passes)
+returns c chip = sym (usually (c .before) (ne-eqb _ 0 (c .if1 .taken)))
 
 element-copy-out-if2 : tie.Need-element-copy-out-if2
 element-copy-out-if2 c = search needs
 
 returns-2 : tie.Need-returns-2
-returns-2 c passes = absurd (false≢true passes)
+returns-2 c chip =
+    let calm = c .before .before in
+    sym (usually (calm .before) (eq-eqb _ 0 (calm .if1 .left)) ∙ joined (le-ltb _ 0x200 (c .if2 .taken)) refl)
 
 element-copy-out-rests : tie.Need-element-copy-out-rests
 element-copy-out-rests c = search needs
@@ -61,7 +94,7 @@ rests-requires : tie.Need-rests-requires
 rests-requires c κs = search needs
 
 returns-3 : tie.Need-returns-3
-returns-3 c passes = absurd (false≢true passes)
+returns-3 c chip = sym (resting (c .before) (not-true _ (c .if3 .taken)))
 
 element-copy-out-timer-kept : tie.Need-element-copy-out-timer-kept
 element-copy-out-timer-kept c = search needs
@@ -79,18 +112,9 @@ timer-kept-requires : tie.Need-timer-kept-requires
 timer-kept-requires c κs = search needs
 
 returns-4 : tie.Need-returns-4
-returns-4 c passes chip sizes =
-    let resting = c .before .before .before .before .before .before in
-    let holding = resting .before in
-    let near = holding .before .before in
-    let calm = near .before .before in
-    let worded = calm .before .before .before in
-    let a = worded .before .before .before .before .before .before .before .before .before .args in
-    let (clear, none) = calm .before .both .ensures (calm .if1 .left) in
-    passes
-    ∙ sym
-    (quickly (clocksNumbersState (now (a .clocks)) (now (a .numbers)) (now (a .state)) chip) (holding .held .result) (sizes .latch-count) (worded .word .ensures clear) none (near .if2 .left)
-    (resting .rests .ensures (not-false _ (c .before .before .before .before .before .if3 .left))) (holding .held .ensures .counted) (sym (c .timer-kept .ensures) ∙ passes))
+returns-4 c chip =
+    let past = c .before .before .before .before .before in
+    c .timer-kept .ensures ∙ sym (resting (past .before) (not-false _ (past .if3 .left)))
 
 pub quick-spec : {M : Type 1} → statement M
 quick-spec =

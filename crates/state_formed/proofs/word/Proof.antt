@@ -26,7 +26,7 @@ eight-requires : tie.Need-eight-requires
 eight-requires c κs = search needs
 
 returns : tie.Need-returns
-returns c none =
+returns c =
     let c6 = c .before in
     let c5 = c6 .before in
     let c4 = c5 .before in
@@ -36,7 +36,7 @@ returns c none =
     let x = c1 .before .args in
     word-clear (x .a) (x .b) (x .c) (x .d) (x .e) (x .f) (x .g) (x .h)
     (search needs) (search needs) (search needs) (search needs) (search needs) (search needs) (search needs) (search needs) (c .eight .result)
-    (simp (c .eight .ensures, c6 .quad2 .ensures, c5 .pair4 .ensures, c4 .pair3 .ensures, c3 .quad .ensures, c2 .pair2 .ensures, c1 .pair .ensures)) none
+    (simp (c .eight .ensures, c6 .quad2 .ensures, c5 .pair4 .ensures, c4 .pair3 .ensures, c3 .quad .ensures, c2 .pair2 .ensures, c1 .pair .ensures))
 
 pub word-spec : {M : Type 1} → statement M
 word-spec =

@@ -1,0 +1,284 @@
+//! Chips that are built field by field, well formed or not. The library gives refusal 7 exactly where document 01's sentences do, as
+//! `chip_memory::plain_of` has them; 7 goes before every other refusal, and a refused call leaves every byte of the chip. From well-formed
+//! ones calls are made on both chips.
+
+use crate::call::{Call, Fill, Image};
+use crate::chip_memory::{field, plain_of, Memory, ARRAYS, SIZE};
+use crate::library;
+use crate::plain::PROGRAMMING_CLOCKS;
+use crate::random::Random;
+use crate::registers::PRIMARY_STATUS;
+use crate::session::Session;
+
+/// The stages of commands.
+const LISTED: [u8; 12] = [0x00, 0x01, 0x41, 0x03, 0x07, 0x0B, 0x12, 0x19, 0x5A, 0x96, 0x5E, 0x9E];
+
+/// Next addresses around the ends of blocks, of block 0 and of the memory, and beyond it.
+const NEXT: [u16; 22] = [
+    0x000, 0x001, 0x002, 0x00E, 0x00F, 0x010, 0x011, 0x018, 0x01F, 0x020, 0x021, 0x0FF, 0x100, 0x1F0, 0x1F1, 0x1FF, 0x200, 0x201, 0x210,
+    0x220, 0x8020, 0xFFFF,
+];
+
+const LEFT: [u32; 8] = [0, 1, 0x1_0000, PROGRAMMING_CLOCKS, PROGRAMMING_CLOCKS + 1, 0x100_0000, 0x8000_0000, u32::MAX];
+
+const HELD: [u8; 11] = [0, 1, 2, 3, 11, 12, 63, 64, 65, 128, 255];
+
+/// Latched counts: what fits a block, one more, and what eight bits or a remainder would take for such.
+fn latched() -> impl Iterator<Item = u8> {
+    (0..=18).chain([31, 32, 33, 48, 128, 240, 255])
+}
+
+/// A started chip's memory, with bytes in every array.
+fn started() -> Memory {
+    let mut memory = Memory([0; SIZE]);
+    let image = Image { fill: Fill::Keys, seed: 7, length: 512 }.bytes();
+    // SAFETY: the chip is whole, and the image has its length.
+    unsafe { library::mfrc531_start(memory.as_mut_ptr(), image.as_ptr(), image.len()) };
+    (0..64).for_each(|place| memory.chip_mut().slots[place] = place as u8 | 0x80);
+    (0..16).for_each(|place| memory.chip_mut().latch[place] = place as u8 | 0x40);
+    memory
+}
+
+/// The fields that say how far a command is. `read` is the FIFO's read position.
+fn with(base: &Memory, stage: u8, latched: u8, left: u32, next: u16, read: u8, held: u8) -> Memory {
+    let mut memory = *base;
+    let chip = memory.chip_mut();
+    (chip.stage, chip.latched, chip.programming_left, chip.next_address) = (stage, latched, left, next);
+    (chip.fifo_read, chip.fifo_write) = (read, read.wrapping_add(held));
+    memory
+}
+
+/// Judges states one by one, and counts them.
+struct Judge<const FAULT: u8> {
+    base: Memory,
+    states: u64,
+}
+
+impl<const FAULT: u8> Judge<FAULT> {
+    /// Calls that are refused on any chip, with 7 where it is malformed; then a poll.
+    fn judge(&mut self, mut memory: Memory) -> Result<(), String> {
+        self.states += 1;
+        let plain = plain_of::<FAULT>(memory.chip());
+        let before = memory;
+        let chip = memory.as_mut_ptr();
+        let mut buffer = [0; 65];
+        // SAFETY: the chip is whole, and each pointer has as many bytes behind it as its length says.
+        let answers = unsafe {
+            [
+                ("a read at 64", 1, library::mfrc531_read(chip, 64)),
+                ("a write at 64", 1, library::mfrc531_write(chip, 64, 0)),
+                ("an advance by 65,536", 3, library::mfrc531_advance(chip, 65_536)),
+                ("a take into 65 bytes", 6, library::mfrc531_take(chip, buffer.as_mut_ptr(), buffer.len())),
+                ("a delivery of nothing", 5, library::mfrc531_deliver(chip, buffer.as_ptr(), 0, buffer.as_ptr(), 0, 0)),
+            ]
+        };
+        if memory != before {
+            return Err(format!("a refused call has changed the chip: {}", self.line(&before)));
+        }
+        let why = plain.as_ref().err().unwrap_or(&"well formed");
+        let poll = match plain.clone() {
+            Ok(mut plain) => plain.read(PRIMARY_STATUS).map_or(1, |byte| u32::from(byte) << 8),
+            Err(_) => 7,
+        };
+        // SAFETY: the chip is whole.
+        let polled = ("a poll", poll, unsafe { library::mfrc531_read(memory.as_mut_ptr(), PRIMARY_STATUS) });
+        for (what, number, answer) in answers.into_iter().chain([polled]) {
+            let wanted = if plain.is_ok() { number } else { 7 };
+            if answer != wanted {
+                return Err(format!("{what} answers {answer:X}h, and {wanted:X}h is wanted ({why}): {}", self.line(&before)));
+            }
+        }
+        Ok(())
+    }
+
+    /// The state as a line of a list, for a started chip.
+    fn line(&self, memory: &Memory) -> String {
+        let differs = |place: &usize| memory.0[*place] != self.base.0[*place];
+        let edits = (0..SIZE).filter(differs).map(|place| (place as u16, memory.0[place])).collect();
+        Call::Corrupt { edits }.to_string()
+    }
+}
+
+/// Refusal 7, on every state that is built. Answers how many those were.
+pub fn judged<const FAULT: u8>(seed: u64) -> Result<u64, String> {
+    let base = started();
+    let mut judge = Judge::<FAULT> { base, states: 0 };
+
+    // Stage, latched count, clocks left, next address and held bytes: every combination for the stages of commands and for their neighbours.
+    let close = [0x81, 0xC1, 0x40, 0x80, 0x52, 0x92, 0x1A, 0x16, 0x1E];
+    for stage in LISTED.into_iter().chain(close) {
+        for latched in latched() {
+            for left in LEFT {
+                for next in NEXT {
+                    for held in HELD {
+                        judge.judge(with(&base, stage, latched, left, next, 250, held))?;
+                    }
+                }
+            }
+        }
+    }
+    // Every other stage.
+    for stage in 0..=255 {
+        for latched in [0, 1, 16, 17] {
+            for left in [0, 1] {
+                for next in [0x000, 0x020, 0x200] {
+                    for held in [0, 1, 64, 65] {
+                        judge.judge(with(&base, stage, latched, left, next, 3, held))?;
+                    }
+                }
+            }
+        }
+    }
+    // WriteE2 at every address.
+    for stage in [0x01, 0x41] {
+        for latched in 0..=33 {
+            for next in 0..0x210 {
+                for left in [0, 1, PROGRAMMING_CLOCKS, PROGRAMMING_CLOCKS + 1] {
+                    for held in [0, 1, 2, 64, 65] {
+                        judge.judge(with(&base, stage, latched, left, next, 0, held))?;
+                    }
+                }
+            }
+        }
+    }
+    // Every number of held bytes at every stage of a command, from several positions.
+    for stage in LISTED {
+        for held in 0..=255 {
+            for read in [0, 1, 63, 192, 255] {
+                judge.judge(with(&base, stage, 0, 0, 0x020, read, held))?;
+                judge.judge(with(&base, stage, 16, 1, 0x020, read, held))?;
+            }
+        }
+    }
+
+    // Every byte before the arrays, with every value, on chips in different stages.
+    let chips = some_chips(&base);
+    for chip in &chips {
+        for place in 0..ARRAYS {
+            for byte in 0..=255 {
+                let mut memory = *chip;
+                memory.0[place] = byte;
+                judge.judge(memory)?;
+            }
+        }
+    }
+    // Every two bits of the bytes that have bits which read 0.
+    let first = 8 * field("page").map_or(0, |(start, _)| start);
+    for chip in &chips[..3] {
+        for one in first..first + 64 {
+            for other in first..one {
+                let mut memory = *chip;
+                memory.0[one / 8] ^= 1 << (one % 8);
+                memory.0[other / 8] ^= 1 << (other % 8);
+                judge.judge(memory)?;
+            }
+        }
+    }
+    // The timer.
+    for running in [0, 1, 2, 3, 128, 255] {
+        for value in [0, 1, 2, 255] {
+            for prescaler in 0..=255u8 {
+                let period = 1u32 << (prescaler % 32);
+                for phase in [0, 1, period - 1, period, period.wrapping_add(1), (1 << 21) - 1, 1 << 21, u32::MAX] {
+                    let mut memory = base;
+                    let chip = memory.chip_mut();
+                    (chip.timer_running, chip.timer_value, chip.timer_prescaler, chip.timer_phase) = (running, value, prescaler, phase);
+                    judge.judge(memory)?;
+                }
+            }
+        }
+    }
+    // The checksum.
+    for stage in [0x00, 0x12, 0x41] {
+        for mode in 0..=255 {
+            for register in [0, 1, 0x7F, 0xFF, 0x100, 0x1FF, 0x8000, 0xFFFF] {
+                let mut memory = base;
+                let chip = memory.chip_mut();
+                (chip.stage, chip.crc_mode, chip.crc_register) = (stage, mode, register);
+                judge.judge(memory)?;
+            }
+        }
+    }
+    // Several fields at once.
+    let mut random = Random::new(seed);
+    for _ in 0..200_000 {
+        let mut memory = random.of(&chips);
+        for _ in 0..=random.below(4) {
+            let place = random.below(ARRAYS as u64) as usize;
+            memory.0[place] = random.of(&[0, 1, 2, 16, 0x40, 0x41, 0x80, 255, random.clone().byte()]);
+        }
+        judge.judge(memory)?;
+    }
+    Ok(judge.states)
+}
+
+/// Well-formed chips: Idle, CalcCRC, the stages of WriteE2, other commands with as many bytes as may wait, a running timer, a CRC8 checksum.
+fn some_chips(base: &Memory) -> Vec<Memory> {
+    let mut chips = vec![
+        with(base, 0x00, 0, 0, 0x000, 0, 0),
+        with(base, 0x12, 0, 0, 0x000, 77, 0),
+        with(base, 0x41, 16, 1, 0x020, 200, 64),
+        with(base, 0x01, 1, PROGRAMMING_CLOCKS, 0x000, 0, 0),
+        with(base, 0x01, 0, 0, 0x1FF, 255, 1),
+        with(base, 0x41, 0, 0, 0x000, 9, 0),
+        with(base, 0x00, 16, 0, 0x020, 250, 64),
+        with(base, 0x03, 0, 0, 0x000, 0, 2),
+        with(base, 0x19, 255, 0, 0x000, 0, 11),
+        with(base, 0x9E, 0, 0, 0x000, 100, 64),
+    ];
+    for stage in [0x00, 0x12] {
+        let mut memory = with(base, stage, 0, 0, 0x000, 0, 0);
+        let chip = memory.chip_mut();
+        (chip.timer_running, chip.timer_value, chip.timer_prescaler, chip.timer_phase) = (1, 1, 21, (1 << 21) - 1);
+        (chip.crc_mode, chip.crc_register) = (0x3F, 0xFF);
+        chips.push(memory);
+    }
+    chips
+}
+
+/// Calls on both chips, from states that are well formed: WriteE2 with and without a batch, and latched counts that other commands have left.
+/// Answers how many calls those were.
+pub fn worked<const FAULT: u8>() -> Result<u64, String> {
+    let base = started();
+    let calls = [
+        Call::Advance { clocks: 1 },
+        Call::Advance { clocks: 65_535 },
+        Call::Write { address: 0x01, byte: 0x00 },
+        Call::Write { address: 0x01, byte: 0x01 },
+        Call::Write { address: 0x01, byte: 0x12 },
+        Call::Write { address: 0x01, byte: 0x1E },
+        Call::Write { address: 0x01, byte: 0x3F },
+        Call::Write { address: 0x02, byte: 0x55 },
+        Call::Write { address: 0x09, byte: 0x01 },
+        Call::Read { address: 0x02 },
+        Call::Take { length: 66, fill: 0 },
+        Call::Deliver { bytes: vec![0x26], parities: vec![0], last_bits: 0 },
+    ];
+    let mut count = 0;
+    for stage in LISTED {
+        for latched in [0, 1, 2, 15, 16, 17, 255] {
+            for left in [0, 1, PROGRAMMING_CLOCKS] {
+                for next in NEXT {
+                    for held in [0, 1, 2, 11, 63, 64] {
+                        let memory = with(&base, stage, latched, left, next, 240, held);
+                        if plain_of::<FAULT>(memory.chip()).is_err() {
+                            continue;
+                        }
+                        for call in &calls {
+                            count += 1;
+                            let mut session = Session::<FAULT>::of(memory);
+                            // The call, and then a poll and clocks on what it has left.
+                            for call in [call, &Call::Read { address: PRIMARY_STATUS }, &Call::Advance { clocks: 2 }] {
+                                session.perform(call).map_err(|difference| {
+                                    let judge = Judge::<FAULT> { base, states: 0 };
+                                    format!("{call} after {}: {difference}", judge.line(&memory))
+                                })?;
+                            }
+                        }
+                    }
+                }
+            }
+        }
+    }
+    Ok(3 * count)
+}

@@ -1,0 +1,184 @@
+/* Hot calls of one kind on a chip, so that tests/instructions can count their instructions: instructions KIND ROUNDS
+ *
+ * Prints how many calls the rounds make. What comes before the rounds is the same for any number of them, none included.
+ */
+#include <mfrc531.h>
+
+#include <stdio.h>
+#include <stdlib.h>
+#include <string.h>
+
+enum { PAGE = 0x00, COMMAND = 0x01, FIFO_DATA = 0x02, PRIMARY_STATUS = 0x03, FIFO_LENGTH = 0x04, INTERRUPT_RQ = 0x07, CONTROL = 0x09,
+       CRC_RESULT_LSB = 0x0D, CRC_RESULT_MSB = 0x0E, TX_CONTROL = 0x11, TIMER_CLOCK = 0x2A, TIMER_RELOAD = 0x2C };
+enum { IDLE = 0x00, CALC_CRC = 0x12 };
+
+static mfrc531_chip chip;
+static unsigned long calls;
+
+/* A refused call would be counted as one of another kind. */
+static void done(mfrc531_answer answer)
+{
+    if (mfrc531_refusal_of(answer) != MFRC531_NOT_REFUSED) {
+        fprintf(stderr, "instructions: a call is refused with %u\n", mfrc531_refusal_of(answer));
+        exit(1);
+    }
+    calls++;
+}
+
+static void get(uint8_t address) { done(mfrc531_read(&chip, address)); }
+static void put(uint8_t address, uint8_t byte) { done(mfrc531_write(&chip, address, byte)); }
+
+/* ---- A round of each kind ------------------------------------------------------------------------------------------------------------ */
+
+static void poll_status(void)
+{
+    for (int i = 0; i < 1000; i++)
+        get(PRIMARY_STATUS);
+}
+
+/* As many bytes as an Idle chip's FIFO holds, again and again. It is emptied by its positions, so that no other call is counted. */
+static void fill_fifo(void)
+{
+    for (int i = 0; i < 16 * 64; i++) {
+        if (i % 64 == 0)
+            chip.fifo_read = chip.fifo_write;
+        put(FIFO_DATA, (uint8_t)i);
+    }
+}
+
+static void start_crc(void)
+{
+    for (int i = 0; i < 1000; i++)
+        put(COMMAND, CALC_CRC);
+}
+
+static void feed_crc(void)
+{
+    for (int i = 0; i < 1000; i++)
+        put(FIFO_DATA, (uint8_t)i);
+}
+
+static void read_registers(void)
+{
+    for (int i = 0; i < 1000; i++)
+        get((uint8_t)(TX_CONTROL + i % 7));
+}
+
+static void write_registers(void)
+{
+    for (int i = 0; i < 1000; i++)
+        put((uint8_t)(TX_CONTROL + i % 7), (uint8_t)i);
+}
+
+/* From one end of the timer to the next. */
+static void pass_clocks(void)
+{
+    for (int i = 0; i < 64 * 255; i++)
+        done(mfrc531_advance(&chip, 1));
+}
+
+/* What a driver does for a command, as in the race of tests/differential. */
+static void drive(void)
+{
+    for (int i = 0; i < 50; i++) {
+        put(INTERRUPT_RQ, 0x7F);
+        put(COMMAND, CALC_CRC);
+        for (int k = 0; k < 4; k++)
+            put(FIFO_DATA, (uint8_t)(i + k));
+        for (int k = 0; k < 6; k++) {
+            get(PRIMARY_STATUS);
+            get(FIFO_LENGTH);
+        }
+        get(CRC_RESULT_LSB);
+        get(CRC_RESULT_MSB);
+    }
+}
+
+/* ---- The recorded mix, the list of tests/differential/src/recorded.rs ---------------------------------------------------------------- */
+
+enum { DRAWN = 1000000, STRETCH = 50, ACCESSES = DRAWN + DRAWN / STRETCH };
+static struct access { uint8_t reads, address, byte; } list[ACCESSES];
+
+static void record(void)
+{
+    uint64_t state = 531;
+    struct access *next = list;
+    for (int drawn = 0; drawn < DRAWN; drawn++) {
+        if (drawn % STRETCH == 0)
+            *next++ = (struct access){0, COMMAND, IDLE};
+        state += 0x9E3779B97F4A7C15;
+        uint64_t number = state;
+        number = (number ^ number >> 30) * 0xBF58476D1CE4E5B9;
+        number = (number ^ number >> 27) * 0x94D049BB133111EB;
+        number ^= number >> 31;
+        unsigned what = (unsigned)(number % 100);
+        if (what < 50)
+            *next++ = (struct access){0, FIFO_DATA, (uint8_t)(number >> 32)};
+        else if (what < 90)
+            *next++ = (struct access){1, PRIMARY_STATUS, 0};
+        else
+            *next++ = (struct access){0, COMMAND, CALC_CRC};
+    }
+    uint64_t sum = 0;
+    for (int i = 0; i < ACCESSES; i++)
+        sum = sum * 31 + list[i].byte + 256u * list[i].address;
+    if (sum != 11792938449016268530u) { /* the same number stands in tests/differential/src/tests.rs */
+        fprintf(stderr, "instructions: this is not the recorded mix\n");
+        exit(1);
+    }
+}
+
+static void play(void)
+{
+    for (int i = 0; i < ACCESSES; i++) {
+        if (list[i].reads)
+            get(list[i].address);
+        else
+            put(list[i].address, list[i].byte);
+    }
+}
+
+/* ---- The kinds ----------------------------------------------------------------------------------------------------------------------- */
+
+static void nothing(void) {}
+static void begin_crc(void) { put(COMMAND, CALC_CRC); }
+
+static void run_timer(void)
+{
+    put(TIMER_RELOAD, 255);
+    put(TIMER_CLOCK, 0x26); /* TAutoRestart, prescaler 6 */
+    put(CONTROL, 0x02);
+}
+
+static const struct { const char *kind; void (*prepare)(void), (*round)(void); } kinds[] = {
+    {"recorded-mix", record, play},
+    {"driver-mix", nothing, drive},
+    {"poll", nothing, poll_status},
+    {"fifo-write", nothing, fill_fifo},
+    {"crc-start", nothing, start_crc},
+    {"crc-byte", begin_crc, feed_crc},
+    {"register-read", nothing, read_registers},
+    {"register-write", nothing, write_registers},
+    {"advance", run_timer, pass_clocks},
+};
+
+int main(int count, char **words)
+{
+    uint8_t image[512] = {0};
+    image[0x23] = image[0x24] = 0x63; /* the preset of ISO/IEC 14443-3, and a WaterLevel of 8 */
+    image[0x29] = 0x08;
+    done(mfrc531_start(&chip, image, sizeof image));
+    put(PAGE, 0x00);
+    for (size_t i = 0; count == 3 && i < sizeof kinds / sizeof *kinds; i++) {
+        if (strcmp(words[1], kinds[i].kind) == 0) {
+            kinds[i].prepare();
+            calls = 0;
+            for (long round = atol(words[2]); round > 0; round--)
+                kinds[i].round();
+            printf("%lu\n", calls);
+            return 0;
+        }
+    }
+    fprintf(stderr, "usage: instructions KIND ROUNDS\n");
+    return 2;
+}

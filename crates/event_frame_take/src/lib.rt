@@ -105,8 +105,10 @@ pub fn take<'a, 'b>(
     buffer: &'b mut [u8],
 ) -> u32
     ensures { λ r.
-        let before = clocksNumbersStateRegistersSlots (now (clocks .entry)) (now (numbers .entry)) (now (state .entry)) (now (registers .entry)) (now (slots .entry)) in
-        let after = clocksNumbersStateRegistersSlots (now (clocks .exit)) (now (numbers .entry)) (now (state .exit)) (now (registers .entry)) (now (slots .entry)) in
+        let before = clocksNumbersStateRegistersSlots (now (clocks .entry)) (now (numbers .entry)) (now (state .entry))
+        (now (registers .entry)) (now (slots .entry)) in
+        let after = clocksNumbersStateRegistersSlots (now (clocks .exit)) (now (numbers .entry)) (now (state .exit))
+        (now (registers .entry)) (now (slots .entry)) in
         ⌜ ((c : Chip) → Promises (before c) (takeFrame (now (buffer .entry))) (after c) r (now (buffer .exit))) ⌝ }
 {
     if !formed(clocks, numbers, state) {

@@ -31,7 +31,8 @@ fn error_flag(errors: u8) -> u8
 fn low(clocks: &[u32; 2], numbers: &[u16; 6], state: &[u8; 24], register: u8) -> u8
     ensures { λ r.
         let lent = clocksNumbersState (now (clocks .entry)) (now (numbers .entry)) (now (state .entry)) in
-        ⌜ (register < 0x10 → (register % 8 ≡ 0 → ⊥) → (register ≡ 0x02 → ⊥) → (register ≡ 0x03 → ⊥) → Shows (registerRead register) lent r) ⌝ }
+        ⌜ (register < 0x10 → (register % 8 ≡ 0 → ⊥) → (register ≡ 0x02 → ⊥) → (register ≡ 0x03 → ⊥) →
+        Shows (registerRead register) lent r) ⌝ }
 {
     match register {
         0x01 => state[STAGE] % 64,

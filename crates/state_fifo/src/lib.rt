@@ -81,7 +81,8 @@ pub fn flag(set: bool) -> u8
     if set { 1 } else { 0 }
 }
 
-// HiAlert and LoAlert in bits 1 and 0, by how many bytes are held: 64 - held ≤ WaterLevel, turned around so that no difference is below 0, and held ≤ WaterLevel.
+// HiAlert and LoAlert in bits 1 and 0, by how many bytes are held. HiAlert's test, 64 - held ≤ WaterLevel, is turned around, so that no difference is
+// below 0.
 pub fn alerts(held: u8, level: u8) -> u8
     ensures is { λ r. ⌜ r ≡ alertBits held (level % 64) ⌝ }
     ensures small { λ r. ⌜ r ≤ 3 ⌝ }

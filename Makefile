@@ -28,9 +28,10 @@ $(BUILD)/profile_check: FORCE
 	@cmp -s target/bin/profile_check $@ || cp target/bin/profile_check $@
 
 # libbench.a is the library; libcrc_exports.a has the checksum over slices, for the differential test alone.
+# rt check proves crates side by side, rt staticlib one after the other: so the first goes before.
 $(BUILD)/lib%.a: FORCE
 	@mkdir -p $(BUILD)
-	@rt staticlib $* > $(BUILD)/$*.log 2>&1 || { cat $(BUILD)/$*.log; exit 1; }
+	@{ rt check $* && rt staticlib $*; } > $(BUILD)/$*.log 2>&1 || { cat $(BUILD)/$*.log; exit 1; }
 	@cmp -s target/staticlib/lib$*.a $@ || cp target/staticlib/lib$*.a $@
 
 library: $(BUILD)/libbench.a

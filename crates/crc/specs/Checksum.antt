@@ -1,35 +1,14 @@
--- The checksum of document 01, "Commands", CalcCRC: two polynomials, least bit first, and the mode bits of ChannelRedundancy (22h).
--- The CRC register holds what has been absorbed; what is shown or sent of it goes by the mode.
+-- The checksum of document 01, "Commands", CalcCRC: bytes into the register, and the mode bits of ChannelRedundancy (22h).
+-- The CRC register holds what has been absorbed; what is shown or sent of it goes by the mode. The polynomials and what a bit makes of the register
+-- are `ShiftRegister` of `crc_table`.
 -- Assumes nothing.
-use Prim.Native.Nat.{ℕ, zero, suc, _+_, _-_, _*_, _/_, _%_, _^_}
+use Prim.Native.Nat.{ℕ, _+_, _-_, _*_}
 use mathlib.Core.Bool.{Bool, cond}
 use mathlib.Core.List.{List, [], _∷_}
 use lib.Bits.{bitXor}
-use lib.Dec.{eqb}
 use Rattle.bits.specs.Bits.{bitSet}
-
--- The taps of a polynomial of the given width, from the exponents of its terms below x^width. The register shifts towards its
--- least bit ("least bit first"), so the term x^e stands at bit width - 1 - e.
-abbrev pub taps : ℕ → List ℕ → ℕ
-taps width [] = 0
-taps width (e ∷ es) = 2 ^ (width - 1 - e) + taps width es
-
--- "16 bits: polynomial x^16 + x^12 + x^5 + 1".
-abbrev pub taps16 : ℕ
-taps16 = taps 16 (12 ∷ 5 ∷ 0 ∷ [])
-
--- "CRC8: x^8 + x^4 + x^3 + x^2 + 1".
-abbrev pub taps8 : ℕ
-taps8 = taps 8 (4 ∷ 3 ∷ 2 ∷ 0 ∷ [])
-
--- The register after one bit: the least bit falls out, and where it was 1 the taps are added, bit by bit.
-unfoldable pub afterBit : ℕ → ℕ → ℕ
-afterBit t c = cond (eqb (c % 2) 1) (bitXor (c / 2) t) (c / 2)
-
--- The register after n bits.
-unfoldable pub afterBits : ℕ → ℕ → ℕ → ℕ
-afterBits t zero c = c
-afterBits t (suc n) c = afterBits t n (afterBit t c)
+pub use Rattle.crc_table.specs.ShiftRegister.{taps, taps8, taps16}
+unfoldable pub use Rattle.crc_table.specs.ShiftRegister.{afterBit, afterBits}
 
 -- The register after a byte: the byte is added to its low eight bits, and eight bits fall out.
 unfoldable pub afterByte : ℕ → ℕ → ℕ → ℕ

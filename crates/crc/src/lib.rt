@@ -7,8 +7,6 @@ ghost use mathlib.Core.Path.{_≡_};
 ghost use Rattle.crc.specs.Checksum.{afterBit, afterByte, taps16, presetOf, absorbed, absorbedAll, resultOf};
 ghost use Rattle.crc.specs.Checksum.{checksum as Checksum·checksum};
 
-mod table; // table.rt: the table of the 16-bit polynomial
-
 // x^8 + x^4 + x^3 + x^2 + 1, least bit first.
 const TAPS_8: u16 = 0xB8;
 
@@ -40,7 +38,7 @@ fn after_byte_16(register: u16, byte: u8) -> u16
     ensures { λ r. ⌜ r ≡ afterByte taps16 register byte ⌝ }
 {
     let mixed = register ^ (byte as u16);
-    (mixed / 256) ^ table::entry((mixed % 256) as u8)
+    (mixed / 256) ^ crc_table::entry((mixed % 256) as u8)
 }
 
 // The register that a checksum starts with, from CRCPresetLSB (23h) and CRCPresetMSB (24h).

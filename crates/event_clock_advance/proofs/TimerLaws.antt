@@ -1,15 +1,13 @@
 -- What the timer does at a step and a clock, by the tests that the code makes.
 -- Assumes nothing.
-use Prim.Native.Nat.{ℕ, _+_, _-_, _*_, _%_, _^_, _<_, _≤_}
-use native.Mathlib.Nat.{one-le-pow}
+use Prim.Native.Nat.{ℕ, _+_, _-_, _^_, _<_, _≤_}
 use native.Mathlib.Omega.{arith}
 use mathlib.Core.Path.{_≡_, refl, ap, sym, _∙_}
 use mathlib.Core.Bool.{Bool, true, false, cond, not, and-eq-true-iff, _&&_}
 use mathlib.Core.List.{List}
 use lib.ListN.{set, length-set}
-use lib.Dec.{eqb, ltb, leb, lit<}
+use lib.Dec.{eqb, ltb, leb}
 use borrow.Author.Tests.{lt-ltb, le-ltb, leb-true, eqb-true}
-use Rattle.bits.proofs.Below.{agree}
 use Rattle.machine.specs.State.{Machine, Timer, withTimer}
 use Rattle.machine.specs.Timer.{TAutoRestart, TimerReload, stoppedAt, runningAt, raisedTimer, timerStepped, timerClock}
 use Rattle.machine.specs.WellFormed.{timerFormed}
@@ -19,13 +17,6 @@ use Rattle.state.specs.Lent.{clocksState}
 use Rattle.state.specs.Turns.{Turns}
 use Rattle.state.proofs.StoreLaws.{at-set, stored, keeps-byte}
 use Rattle.state.proofs.TurnLaws.{sized-clocks, sized-state}
-
--- 2^prescaler as the code has it fits 32 bits.
-pub period-fits : (p : ℕ) → p < 32 → 1 * 2 ^ p % 0x100000000 ≡ 2 ^ p
-period-fits = agree (λ p. 1 * 2 ^ p % 0x100000000) (λ p. 2 ^ p) 32 tt
-
-pub period-some : (p : ℕ) → 1 ≤ 2 ^ p
-period-some p = one-le-pow p 2 (lit< tt)
 
 -- A well-formed timer's prescaler is below 32.
 formed : (r : Bool) (v p k : ℕ) → timerFormed (record { running = r; value = v; prescaler = p; phase = k }) ≡ true → p < 32

@@ -1,9 +1,6 @@
 // One clock of the timer.
-ghost use Prim.Native.Nat.{_%_, _^_, _<_, _≤_};
-ghost use mathlib.Core.Bool.{not, _&&_};
+ghost use Prim.Native.Nat.{_<_};
 ghost use mathlib.Core.Path.{_≡_};
-ghost use lib.Dec.{eqb};
-ghost use Rattle.bits.specs.Bits.{bitSet};
 ghost use Rattle.machine.specs.Timer.{timerStepped, timerClock};
 ghost use Rattle.state.specs.View.{at};
 ghost use Rattle.state.specs.Lent.{clocksStateRegisters};
@@ -13,22 +10,9 @@ use state::PRESCALER;
 use state::RUNNING;
 use state::VALUE;
 use state::requested;
+use state_timer::period;
+use state_timer::restarts;
 use state_timer::timer_stopped;
-
-// How many clocks make one timer step.
-fn period(prescaler: u8) -> u32
-    ensures is { λ r. ⌜ r ≡ 2 ^ (prescaler % 32) ⌝ }
-    ensures some { λ r. ⌜ 1 ≤ r ⌝ }
-{
-    1u32 << (prescaler % 32)
-}
-
-// A timer at its end restarts: TAutoRestart is set, and TimerReload is not 0.
-fn restarts(timer_clock: u8, reload: u8) -> bool
-    ensures { λ r. ⌜ r ≡ (bitSet «timer_clock» 5 && not (eqb reload 0)) ⌝ }
-{
-    (timer_clock / 32 % 2 == 1) & (reload != 0)
-}
 
 // One timer step of a timer that runs: the value falls; from 1 on it raises TimerIRq, and stops, or begins again with TAutoRestart.
 fn timer_stepped(clocks: &mut [u32; 2], state: &mut [u8; 24], registers: &[u8; 32])

@@ -1,9 +1,13 @@
-// The timer in the state: it is stopped, and it is started by the registers TimerClock (2Ah) and TimerReload (2Ch).
+// The timer in the state: it is stopped, and it is started by the registers TimerClock (2Ah) and TimerReload (2Ch); the clocks of a step, and the restart.
 use state::PHASE;
 use state::PRESCALER;
 use state::RUNNING;
 use state::VALUE;
-ghost use Prim.Native.Nat.{_<_};
+ghost use Prim.Native.Nat.{_%_, _^_, _<_, _≤_};
+ghost use mathlib.Core.Bool.{not, _&&_};
+ghost use mathlib.Core.Path.{_≡_};
+ghost use lib.Dec.{eqb};
+ghost use Rattle.bits.specs.Bits.{bitSet};
 ghost use Rattle.machine.specs.State.{Timer, withTimer};
 ghost use Rattle.machine.specs.Timer.{timerStopped, timerStarted};
 ghost use Rattle.state.specs.View.{isSet};
@@ -49,4 +53,19 @@ pub fn timer_started(clocks: &mut [u32; 2], state: &mut [u8; 24], registers: &[u
     } else {
         timer_set(clocks, state, 1, reload, prescaler);
     }
+}
+
+// How many clocks make one timer step.
+pub fn period(prescaler: u8) -> u32
+    ensures is { λ r. ⌜ r ≡ 2 ^ (prescaler % 32) ⌝ }
+    ensures some { λ r. ⌜ 1 ≤ r ⌝ }
+{
+    1u32 << (prescaler % 32)
+}
+
+// A timer at its end restarts: TAutoRestart is set, and TimerReload is not 0.
+pub fn restarts(timer_clock: u8, reload: u8) -> bool
+    ensures { λ r. ⌜ r ≡ (bitSet «timer_clock» 5 && not (eqb reload 0)) ⌝ }
+{
+    (timer_clock / 32 % 2 == 1) & (reload != 0)
 }

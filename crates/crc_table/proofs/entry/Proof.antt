@@ -1,4 +1,4 @@
--- `crc::table::entry` meets its contract: the checker computes the rule at every byte and compares it with the arm's constant. One law answers for
+-- `crc_table::entry` meets its contract: the checker computes the rule at every byte and compares it with the arm's constant. One law answers for
 -- all 256 arms, in place of a need for each.
 -- Assumes nothing.
 use mathlib.Core.Path.{_≡_, _∙_, ap}
@@ -13,11 +13,11 @@ use borrow.Fn.Plain.{t-fn-plain}
 use contract.Lifetimes.{Lfts, Shares}
 use Rattle.bits.proofs.ConstantArms.{answered}
 use Rattle.bits.proofs.Xor.{xor-assoc}
-use Rattle.crc.specs.Checksum.{afterBit, afterBits, taps16}
-use Rattle.crc.proofs.table.entry.Lts as lts
-use Rattle.crc.proofs.table.entry.Reads as reads
-use Rattle.crc.proofs.table.entry.Statement.{statement}
-use Rattle.crc.proofs.table.entry.Tie as tie
+use Rattle.crc_table.specs.ShiftRegister.{afterBit, afterBits, taps16}
+use Rattle.crc_table.proofs.entry.Lts as lts
+use Rattle.crc_table.proofs.entry.Reads as reads
+use Rattle.crc_table.proofs.entry.Statement.{statement}
+use Rattle.crc_table.proofs.entry.Tie as tie
 
 -- Bit 7 flipped twice.
 flipped-back : (byte : ℕ) → bitXor (bitXor byte 128) 128 ≡ byte

@@ -1,11 +1,11 @@
--- `event_clock_advance::timer::period` meets its contract. Assumes nothing.
+-- `state_timer::period` meets its contract. Assumes nothing.
 use Prim.Native.Nat.{ℕ, _%_, _≤_}
 use native.Mathlib.Omega.{arith}
 use mathlib.Core.Path.{sym, subst}
-use Rattle.event_clock_advance.proofs.TimerLaws.{period-fits, period-some}
+use Rattle.state_timer.proofs.PeriodLaws.{period-fits, period-some}
 use borrow.Author.Needs.{needs}
-use Rattle.event_clock_advance.proofs.timer.period.Statement.{statement}
-use Rattle.event_clock_advance.proofs.timer.period.Tie as tie
+use Rattle.state_timer.proofs.period.Statement.{statement}
+use Rattle.state_timer.proofs.period.Tie as tie
 
 cast-result : tie.Need-cast-result
 cast-result c = search needs

@@ -4,7 +4,7 @@
 // byte with bit 7 flipped, since the compiler orders the cases of a byte as signed numbers: its table then begins with the entry for 00h, and no
 // addition comes before the lookup.
 ghost use mathlib.Core.Path.{_≡_};
-ghost use Rattle.crc.specs.Checksum.{afterBits, taps16};
+ghost use Rattle.crc_table.specs.ShiftRegister.{afterBits, taps16};
 
 // The entry for a byte: what eight bits make of the register that holds the byte alone.
 pub fn entry(byte: u8) -> u16

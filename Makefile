@@ -8,8 +8,10 @@ CALLS ?= 1000000
 SOAK_CALLS ?= 50000000
 BUILD := $(abspath build)
 export MFRC531_LIB_DIR := $(BUILD)
+# rt waits for the slowest of a round of edits: with twice as many as there are processors, none of these waits long.
+export RT_JOBS ?= 4
 
-.PHONY: help run test check library install bench soak clean
+.PHONY: help run test proved check library install bench soak clean
 
 help:
 	@echo 'make run      build the library, proved, and a first firmware on it; show both at work, and the profile check'
@@ -46,7 +48,12 @@ run: $(BUILD)/lock $(BUILD)/profile_check
 	@echo 'The profile check:'
 	@tools/check_profiles $(BUILD)/profile_check profiles/*.hex
 
-test: $(BUILD)/lock $(BUILD)/profile_check $(BUILD)/libcrc_exports.a
+# All that the tests link, proved side by side before any of it is built.
+proved:
+	@mkdir -p $(BUILD)
+	@rt check bench profile_check crc_exports > $(BUILD)/proved.log 2>&1 || { cat $(BUILD)/proved.log; exit 1; }
+
+test: proved $(BUILD)/lock $(BUILD)/profile_check $(BUILD)/libcrc_exports.a
 	tests/profile_check $(BUILD)/profile_check
 	tests/firmware $(BUILD)
 	tests/differential/run $(CALLS)

@@ -3,15 +3,13 @@
 // An event lends the chip's arrays where they lie to the event on the arrays, and answers its number. Nothing is copied.
 ghost use mathlib.Core.Path.{_≡_};
 ghost use mathlib.Core.List.{[]};
-ghost use Rattle.profile.specs.Answer.{refusalAnswer};
 ghost use Rattle.profile.specs.FixedBits.{fixedBits};
 ghost use Rattle.profile.specs.Check.{judged};
 ghost use Rattle.safe_start.specs.Choice.{chosen};
 ghost use Rattle.machine.specs.Refusals.{start, hostRead, hostWrite, advance, takeFrame, deliver};
 ghost use Rattle.state.specs.Meets.{Meets};
-ghost use Rattle.bench.specs.Numbers.{profileNumber, choiceNumber};
-use profile::Refusal;
-use profile::Verdict;
+ghost use Rattle.profile_number.specs.Numbers.{profileNumber};
+ghost use Rattle.bench.specs.Numbers.{choiceNumber};
 use safe_start::Choice;
 use state::Chip;
 
@@ -122,28 +120,12 @@ pub extern "C" fn mfrc531_deliver(
     )
 }
 
-// The number of a refusal by the profile check.
-fn refusal_number(refusal: Refusal) -> u32
-    ensures { λ r. ⌜ r ≡ profileNumber (refusalAnswer refusal) ⌝ }
-{
-    match refusal {
-        Refusal::Length => 9,
-        Refusal::FixedBit { register, bit } => 10 + 0x100 * register as u32 + 0x1_0000 * bit as u32,
-        Refusal::PreScaler { register } => 11 + 0x100 * register as u32,
-        Refusal::Reload { register } => 12 + 0x100 * register as u32,
-        Refusal::WaterLevel { register } => 13 + 0x100 * register as u32,
-    }
-}
-
 // The check of a start-up profile.
 #[no_mangle]
 pub extern "C" fn mfrc531_check_profile(profile: &[u8]) -> u32
     ensures { λ r. ⌜ r ≡ profileNumber (judged fixedBits (now (profile .entry))) ⌝ }
 {
-    match profile::check(profile) {
-        Verdict::Pass => 0,
-        Verdict::Refused(refusal) => refusal_number(refusal),
-    }
+    profile_number::verdict_number(profile::check(profile))
 }
 
 // The choice of profile for a safe start, from two images.

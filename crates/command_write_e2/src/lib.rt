@@ -1,12 +1,12 @@
 // WriteE2, in two steps: it takes its address, and it latches held bytes up to the end of a block, which starts a programming. Each contract holds
-// whatever the stage is.
+// whatever the stage is. Where a batch begins is told besides, for the end of its programming.
 ghost use Prim.Native.Nat.{_%_, _≤_, min};
 ghost use mathlib.Core.Path.{_≡_};
 ghost use lib.ListN.{length, take};
 ghost use Rattle.machine.specs.State.{addressing, ready};
 ghost use Rattle.machine.specs.Memory.{roomInBlock};
 ghost use Rattle.machine.specs.Commands.{writeStepped};
-ghost use Rattle.state.specs.View.{at, heldFrom, view};
+ghost use Rattle.state.specs.View.{at, batchStart, heldFrom, view};
 ghost use Rattle.state.specs.Lent.{clocksNumbersStateSlots, clocksNumbersStateSlotsLatch};
 ghost use Rattle.state.specs.Turns.{Sizes, Turns};
 ghost use Rattle.state.specs.declared.Chip.{Chip};
@@ -104,4 +104,11 @@ pub fn bytes_latched(
     state[LATCHED] = count;
     state[STAGE] = 0x41;
     taken(state, count);
+}
+
+// Where the latched bytes go: they end where the next byte goes.
+pub fn batch_start(next: u16, latched: u8) -> u16
+    ensures { λ r. ⌜ r ≡ batchStart next latched ⌝ }
+{
+    ((next as u32 + 0x200 - latched as u32) % 0x200) as u16
 }

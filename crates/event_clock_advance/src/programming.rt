@@ -1,13 +1,14 @@
 // One clock of the programming that WriteE2 has started.
-ghost use Prim.Native.Nat.{_+_, _-_, _%_, _≤_};
+ghost use Prim.Native.Nat.{_+_, _≤_};
 ghost use mathlib.Core.Bool.{true};
 ghost use mathlib.Core.Path.{_≡_};
 ghost use lib.ListN.{length, take};
 ghost use Rattle.machine.specs.Memory.{storedFrom};
-ghost use Rattle.state.specs.View.{at, batchStart};
+ghost use Rattle.state.specs.View.{at};
 ghost use Rattle.state.specs.Formed.{batchFits};
 ghost use Rattle.state.specs.Lent.{clocksNumbersStateSlotsLatchEeprom};
 ghost use Rattle.event_clock_advance.specs.Clock.{ends, clocksCommand, TurnsFormed};
+use command_write_e2::batch_start;
 use command_write_e2::bytes_latched;
 use state::LATCHED;
 use state::LEFT;
@@ -15,13 +16,6 @@ use state::NEXT;
 use state::STAGE;
 use state::held;
 use state::requested;
-
-// Where the latched bytes go: they end where the next byte goes.
-fn batch_start(next: u16, latched: u8) -> u16
-    ensures { λ r. ⌜ r ≡ batchStart next latched ⌝ }
-{
-    ((next as u32 + 0x200 - latched as u32) % 0x200) as u16
-}
 
 // Stores the first latched bytes from an address on.
 fn store_batch(eeprom: &mut [u8; 512], latch: &[u8; 16], address: u16, count: u8)

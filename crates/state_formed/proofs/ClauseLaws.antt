@@ -3,7 +3,7 @@
 use Prim.Native.Nat.{ℕ, _+_, _%_}
 use native.Mathlib.Omega.{arith}
 use mathlib.Core.Path.{_≡_, refl, sym, ap, _∙_}
-use mathlib.Core.Bool.{Bool, true, false, cond, not, Bool·beq, and-true, and-comm, and-assoc, false≢true, _&&_}
+use mathlib.Core.Bool.{Bool, true, false, cond, not, and-true, and-comm, and-assoc, false≢true, _&&_}
 use mathlib.Core.List.{List}
 use lib.Dec.{ltb, leb, eqb}
 use lib.ListN.{length, take}
@@ -20,17 +20,11 @@ use Rattle.state.specs.Turns.{Sizes}
 use Rattle.state.specs.declared.Chip.{Chip}
 use Rattle.state.proofs.RingLaws.{held-length}
 use Rattle.state.proofs.StageLaws.{Other, by-stage}
-use Rattle.state_formed.specs.Judged.{flagsFormed, timerFieldsFormed, programmingFormed, stageRoom, roomOf, firstClear, restsWith, usual}
-use Rattle.state_formed.proofs.ByteLaws.{joined-if, and-left-comm, below, waiting}
+use Rattle.state_clauses.specs.Clauses.{flagsFormed, timerFieldsFormed, programmingFormed, stageRoom, roomOf, restsWith}
+use Rattle.state_clauses.proofs.ByteLaws.{joined-if, and-left-comm, below, waiting}
+use Rattle.state_formed.specs.Judged.{firstClear, usual}
 
--- `==` of two tests, as the code has it.
-pub same-tests : (a b : Bool) → Bool·beq a b ≡ agree a b
-same-tests true true = refl
-same-tests true false = refl
-same-tests false true = refl
-same-tests false false = refl
-
--- Where the two agree: clocks are left only where some are due, and none where none are.
+-- Where the two tests agree: clocks are left only where some are due, and none where none are.
 some-due : (left : ℕ) (due : Bool) → agree (ltb 0 left) due ≡ true → eqb left 0 ≡ false → due ≡ true
 some-due left due agrees some = sym (ap (λ (t : Bool). agree t due) (lt-ltb 0 left (omega (arith, eqb-false left 0 some)))) ∙ agrees
 

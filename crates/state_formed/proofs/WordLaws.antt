@@ -8,7 +8,7 @@ use mathlib.Core.Bool.{Bool, and-assoc, and-comm, _&&_}
 use lib.Bits.{bitAnd, and-block}
 use lib.Dec.{eqb}
 use Rattle.state_formed.specs.Judged.{firstClear}
-use Rattle.state_formed.proofs.ByteLaws.{joined, and-left-comm, none-of, bits-judged, flags-judged, mode-bit}
+use Rattle.state_clauses.proofs.ByteLaws.{joined, and-left-comm, none-of, bits-judged, flags-judged, mode-bit}
 
 -- Two parts that are side by side.
 split : (k a b r s : ℕ) → r < 2 ^ k → s < 2 ^ k → eqb (bitAnd (a * 2 ^ k + r) (b * 2 ^ k + s)) 0 ≡ (eqb (bitAnd a b) 0 && eqb (bitAnd r s) 0)

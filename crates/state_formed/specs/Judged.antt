@@ -1,16 +1,16 @@
--- What the code judges: a chip, and its clauses as tests of numbers by value.
+-- What the code judges: a chip, and the states that a host meets most of the time.
 -- Assumes nothing.
 use Prim.Native.Nat.{ℕ}
-use mathlib.Core.Bool.{Bool, cond, not, _&&_}
+use mathlib.Core.Bool.{Bool, not, _&&_}
 use mathlib.Core.Path.{_≡_}
-use lib.Dec.{ltb, leb, eqb}
+use lib.Dec.{ltb, eqb}
 use Rattle.crc.specs.Checksum.{CRC8}
-use Rattle.machine.specs.Memory.{programmingClocks}
-use Rattle.machine.specs.WellFormed.{timerFormed, bitsFormed}
-use Rattle.state.specs.View.{Core, core, isSet, heldCount}
-use Rattle.state.specs.Formed.{writes, batchFits, agree, isFlag, byteFormed, chipFormed}
+use Rattle.machine.specs.WellFormed.{bitsFormed}
+use Rattle.state.specs.View.{Core, core, heldCount}
+use Rattle.state.specs.Formed.{chipFormed}
 use Rattle.state.specs.Turns.{Sizes}
 use Rattle.state.specs.declared.Chip.{Chip}
+use Rattle.state_clauses.specs.Clauses.{flagsFormed, timerFieldsFormed, restsWith}
 
 -- A function that reads fields: its answer is what a definition gives of them, whatever the arrays are that it is not lent.
 abbrev pub ReadsFields : (Core → Bool) → (Chip → Chip) → Bool → Type 0
@@ -21,49 +21,10 @@ ReadsFields f lent r = (c : Chip) → r ≡ f (core (lent c))
 abbrev pub Judges : (Chip → Chip) → Bool → Type 0
 Judges lent r = (c : Chip) → Sizes (lent c) → r ≡ chipFormed (lent c)
 
--- The bytes of flags, but for TRunning: ErrorFlag, InterruptRq, InterruptEn, and whether a key is loaded.
-abbrev pub flagsFormed : ℕ → ℕ → ℕ → ℕ → Bool
-flagsFormed loaded enables requests errors = byteFormed 7 errors && (byteFormed 6 requests && (byteFormed 4 enables && byteFormed 2 loaded))
-
--- TRunning's byte, and the timer.
-abbrev pub timerFieldsFormed : ℕ → ℕ → ℕ → ℕ → Bool
-timerFieldsFormed running value prescaler phase =
-    isFlag running && timerFormed (record { running = isSet running; value = value; prescaler = prescaler; phase = phase })
-
--- The clauses of `stageFormed` (state, Formed) but for the stage itself, and the most clocks that may be left.
-abbrev pub programmingFormed : ℕ → ℕ → ℕ → ℕ → Bool
-programmingFormed stage latched left next =
-    leb left programmingClocks && (agree (ltb 0 left) (writes stage && batchFits next latched) && ltb next 0x200)
-
--- One more than the most bytes that may wait in a stage that programs nothing; 0 where it is none.
-abbrev pub stageRoom : ℕ → ℕ
-stageRoom s =
-    cond (eqb s 0x00) 65
-    (cond (eqb s 0x01) 2
-    (cond (eqb s 0x41) 1
-    (cond (eqb s 0x03) 3
-    (cond (eqb s 0x07) 2
-    (cond (eqb s 0x0B) 2
-    (cond (eqb s 0x12) 1
-    (cond (eqb s 0x19) 12
-    (cond (eqb s 0x5A) 65
-    (cond (eqb s 0x96) 65
-    (cond (eqb s 0x5E) 65
-    (cond (eqb s 0x9E) 65
-    0)))))))))))
-
--- While programming clocks are left, 64 may wait.
-abbrev pub roomOf : ℕ → ℕ → ℕ
-roomOf stage left = cond (eqb left 0) (stageRoom stage) 65
-
 -- The first eight bytes of state have 0 where they always read 0, and CRC8 is 0.
 abbrev pub firstClear : ℕ → ℕ → ℕ → ℕ → ℕ → ℕ → ℕ → ℕ → Bool
 firstClear page control loaded last enables mode requests errors =
     bitsFormed page control last && (flagsFormed loaded enables requests errors && not (CRC8 mode))
-
--- Idle with at most 64 bytes held, or CalcCRC with none.
-abbrev pub restsWith : ℕ → ℕ → Bool
-restsWith stage count = cond (eqb stage 0x00) (leb count 64) (eqb stage 0x12 && eqb count 0)
 
 -- The states that a host meets most of the time: every bit of the first eight bytes that always reads 0 is 0 and CRC8 is 0, no programming clocks are
 -- left, the next address is below 200h, Idle holds at most 64 bytes or CalcCRC none, and the timer is formed.

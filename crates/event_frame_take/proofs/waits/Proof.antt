@@ -7,7 +7,7 @@ use mathlib.Core.Bool.{not}
 use lib.Dec.{eqb}
 use Rattle.state.specs.View.{core, viewOf, withState}
 use Rattle.state.proofs.RingLaws.{count-length}
-use Rattle.state_formed.proofs.ByteLaws.{joined}
+use Rattle.state_clauses.proofs.ByteLaws.{joined}
 use Rattle.event_frame_take.proofs.SentLaws.{stage-sends}
 use Rattle.event_frame_take.proofs.waits.Statement.{statement}
 use Rattle.event_frame_take.proofs.waits.Tie as tie

@@ -1,5 +1,5 @@
 -- `state_formed::both` meets its contract. Assumes nothing.
-use Rattle.state_formed.proofs.ByteLaws.{or-none}
+use Rattle.state_clauses.proofs.ByteLaws.{or-none}
 use Rattle.state_formed.proofs.both.Statement.{statement}
 use Rattle.state_formed.proofs.both.Tie as tie
 

@@ -6,7 +6,7 @@ use lib.Dec.{ltb}
 use borrow.Author.Needs.{needs}
 use Rattle.state.specs.View.{at, heldCount}
 use Rattle.state.specs.Lent.{clocksNumbersState}
-use Rattle.state_formed.proofs.ByteLaws.{joined}
+use Rattle.state_clauses.proofs.ByteLaws.{joined}
 use Rattle.state_formed.proofs.ClauseLaws.{clauses}
 use Rattle.state_formed.proofs.formed.Statement.{statement}
 use Rattle.state_formed.proofs.formed.Tie as tie

@@ -1,8 +1,8 @@
--- `state_formed::flags_formed` meets its contract. Assumes nothing.
+-- `state_clauses::flags_formed` meets its contract. Assumes nothing.
 use native.Mathlib.Omega.{arith}
-use Rattle.state_formed.proofs.ByteLaws.{flags-judged}
-use Rattle.state_formed.proofs.flags_formed.Statement.{statement}
-use Rattle.state_formed.proofs.flags_formed.Tie as tie
+use Rattle.state_clauses.proofs.ByteLaws.{flags-judged}
+use Rattle.state_clauses.proofs.flags_formed.Statement.{statement}
+use Rattle.state_clauses.proofs.flags_formed.Tie as tie
 
 returns : tie.Need-returns
 returns c = let a = c .args in flags-judged (a .loaded) (a .enables) (a .requests) (a .errors) (omega arith) (omega arith) (omega arith) (omega arith)

@@ -13,7 +13,7 @@ use Rattle.crc.specs.Checksum.{CRC8}
 use Rattle.machine.specs.WellFormed.{timerFormed, bitsFormed}
 use Rattle.state.specs.View.{isSet}
 use Rattle.state.specs.Formed.{isFlag}
-use Rattle.state_formed.specs.Judged.{flagsFormed}
+use Rattle.state_clauses.specs.Clauses.{flagsFormed}
 
 -- Tests that are joined, each by its answer. The second may lean on the first.
 pub joined : {a b s t : Bool} → a ≡ s → b ≡ t → (a && b) ≡ (s && t)

@@ -1,8 +1,8 @@
--- `state_formed::bits_formed` meets its contract. Assumes nothing.
+-- `state_clauses::bits_formed` meets its contract. Assumes nothing.
 use native.Mathlib.Omega.{arith}
-use Rattle.state_formed.proofs.ByteLaws.{bits-judged}
-use Rattle.state_formed.proofs.bits_formed.Statement.{statement}
-use Rattle.state_formed.proofs.bits_formed.Tie as tie
+use Rattle.state_clauses.proofs.ByteLaws.{bits-judged}
+use Rattle.state_clauses.proofs.bits_formed.Statement.{statement}
+use Rattle.state_clauses.proofs.bits_formed.Tie as tie
 
 returns : tie.Need-returns
 returns c = let a = c .args in bits-judged (a .page) (a .control) (a .last) (omega arith) (omega arith) (omega arith)

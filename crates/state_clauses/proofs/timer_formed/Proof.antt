@@ -1,10 +1,10 @@
--- `state_formed::timer_formed` meets its contract. Assumes nothing.
+-- `state_clauses::timer_formed` meets its contract. Assumes nothing.
 use mathlib.Core.Path.{refl}
 use native.Mathlib.Omega.{arith}
-use Rattle.state_formed.proofs.ByteLaws.{joined-if, timer-judged}
+use Rattle.state_clauses.proofs.ByteLaws.{joined-if, timer-judged}
 use borrow.Author.Needs.{needs}
-use Rattle.state_formed.proofs.timer_formed.Statement.{statement}
-use Rattle.state_formed.proofs.timer_formed.Tie as tie
+use Rattle.state_clauses.proofs.timer_formed.Statement.{statement}
+use Rattle.state_clauses.proofs.timer_formed.Tie as tie
 
 mul-kept : tie.Need-mul-kept
 mul-kept c = search needs

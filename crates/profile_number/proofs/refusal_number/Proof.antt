@@ -1,11 +1,11 @@
--- `bench::refusal_number` meets its contract, by the refusal's case. Assumes nothing.
+-- `profile_number::refusal_number` meets its contract, by the refusal's case. Assumes nothing.
 use borrow.Author.Needs.{needs}
 use mathlib.Core.Path.{_≡_, ap, sym}
 use Rattle.profile.specs.Answer.{refusalAnswer}
 use Rattle.profile.specs.declared.Refusal.{Refusal}
-use Rattle.bench.specs.Numbers.{profileNumber}
-use Rattle.bench.proofs.refusal_number.Statement.{statement}
-use Rattle.bench.proofs.refusal_number.Tie as tie
+use Rattle.profile_number.specs.Numbers.{profileNumber}
+use Rattle.profile_number.proofs.refusal_number.Statement.{statement}
+use Rattle.profile_number.proofs.refusal_number.Tie as tie
 
 enum-told : tie.Need-enum-told
 enum-told c = search needs

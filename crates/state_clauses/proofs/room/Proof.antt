@@ -1,7 +1,7 @@
--- `state_formed::room` meets its contract, by whether clocks are left, and by the stage. Assumes nothing.
+-- `state_clauses::room` meets its contract, by whether clocks are left, and by the stage. Assumes nothing.
 use borrow.Author.Tests.{ne-eqb}
-use Rattle.state_formed.proofs.room.Statement.{statement}
-use Rattle.state_formed.proofs.room.Tie as tie
+use Rattle.state_clauses.proofs.room.Statement.{statement}
+use Rattle.state_clauses.proofs.room.Tie as tie
 
 returns : tie.Need-returns
 returns c = simp (ne-eqb (c .before .args .left) 0 (c .if1 .taken))

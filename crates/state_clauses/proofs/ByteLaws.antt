@@ -2,13 +2,13 @@
 -- Assumes nothing.
 use Prim.Native.Nat.{ℕ, zero, suc, _+_, _*_, _/_, _%_, _^_, _<_, _≤_}
 use native.Mathlib.Omega.{arith}
-use mathlib.Core.Path.{_≡_, refl, sym, _∙_}
+use mathlib.Core.Path.{_≡_, refl, sym, ap, _∙_}
 use mathlib.Core.Bool.{Bool, true, false, cond, not, and-false, and-assoc, _&&_, _||_}
 use lib.Bits.{bitAnd, bitOr, and-le-l, and-le-r, or-add-and}
 use lib.Dec.{T, eqb, ltb, leb, leb·zero}
 use borrow.Author.Tests.{le-leb, leb-true, leb-false, eqb-true, eqb-false, eq-eqb, ne-eqb, lt-ltb, le-ltb}
 use Rattle.bits.specs.Bits.{bit}
-use Rattle.bits.proofs.Below.{all, each, agree}
+use Rattle.bits.proofs.Below.{all, each}
 use Rattle.crc.specs.Checksum.{CRC8}
 use Rattle.machine.specs.WellFormed.{timerFormed, bitsFormed}
 use Rattle.state.specs.View.{isSet}
@@ -96,10 +96,10 @@ or-none a b =
 
 -- A timer's tests without a choice, for a flag that is 0 or 1. A prescaler that is kept is below 32.
 abbrev clocks : ℕ → ℕ
-clocks p = 1 * 2 ^ (p % 32) % 0x100000000
+clocks p = 2 ^ (p % 32)
 
 clocks-kept : (p : ℕ) → p < 32 → clocks p ≡ 2 ^ p
-clocks-kept = agree clocks (λ p. 2 ^ p) 32 tt
+clocks-kept p few = let same : p % 32 ≡ p = omega arith in ap (λ (n : ℕ). 2 ^ n) same
 
 below-one : (k : ℕ) → ltb k 1 ≡ eqb k 0
 below-one zero = refl

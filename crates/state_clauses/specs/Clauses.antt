@@ -42,7 +42,3 @@ stageRoom s =
 -- While programming clocks are left, 64 may wait.
 abbrev pub roomOf : ℕ → ℕ → ℕ
 roomOf stage left = cond (eqb left 0) (stageRoom stage) 65
-
--- Idle with at most 64 bytes held, or CalcCRC with none.
-abbrev pub restsWith : ℕ → ℕ → Bool
-restsWith stage count = cond (eqb stage 0x00) (leb count 64) (eqb stage 0x12 && eqb count 0)

@@ -4,7 +4,8 @@
 // Tests are joined by `&` and `|`: to a proof these are the specification's own `&&` and `||`.
 ghost use mathlib.Core.Path.{_≡_};
 ghost use Rattle.machine.specs.WellFormed.{checksumFormed, bitsFormed};
-ghost use Rattle.state_clauses.specs.Clauses.{flagsFormed, timerFieldsFormed, programmingFormed, roomOf, restsWith};
+ghost use Rattle.state_clauses.specs.Clauses.{flagsFormed, timerFieldsFormed, programmingFormed, roomOf};
+use state_timer::period;
 
 // ErrorFlag, InterruptRq, InterruptEn and the key's flag have 0 where they always read 0: each byte has none of a mask's bits.
 pub fn flags_formed(loaded: u8, enables: u8, requests: u8, errors: u8) -> bool
@@ -69,16 +70,5 @@ pub fn timer_formed(running: u8, value: u8, prescaler: u8, phase: u32) -> bool
     ensures { λ r. ⌜ r ≡ timerFieldsFormed running value prescaler phase ⌝ }
 {
     let kept = prescaler as u16 <= 21 * running as u16;
-    let clocks = 1u32 << (prescaler % 32);
-    (running <= 1) & (kept & ((running <= value) & (phase < clocks)))
-}
-
-// Idle or CalcCRC, with no more bytes than may wait.
-pub fn rests(stage: u8, count: u8) -> bool
-    ensures { λ r. ⌜ r ≡ restsWith stage count ⌝ }
-{
-    if stage == 0x00 {
-        return count <= 64;
-    }
-    (stage == 0x12) & (count == 0)
+    (running <= 1) & (kept & ((running <= value) & (phase < period(prescaler))))
 }

@@ -20,9 +20,9 @@ use Rattle.state.specs.Turns.{Sizes}
 use Rattle.state.specs.declared.Chip.{Chip}
 use Rattle.state.proofs.RingLaws.{held-length}
 use Rattle.state.proofs.StageLaws.{Other, by-stage}
-use Rattle.state_clauses.specs.Clauses.{flagsFormed, timerFieldsFormed, programmingFormed, stageRoom, roomOf, restsWith}
+use Rattle.state_clauses.specs.Clauses.{flagsFormed, timerFieldsFormed, programmingFormed, stageRoom, roomOf}
 use Rattle.state_clauses.proofs.ByteLaws.{joined-if, and-left-comm, below, waiting}
-use Rattle.state_formed.specs.Judged.{firstClear, usual}
+use Rattle.state_formed.specs.Judged.{firstClear, restsWith, usual}
 
 -- Where the two tests agree: clocks are left only where some are due, and none where none are.
 some-due : (left : ℕ) (due : Bool) → agree (ltb 0 left) due ≡ true → eqb left 0 ≡ false → due ≡ true

@@ -1,16 +1,16 @@
 -- What the code judges: a chip, and the states that a host meets most of the time.
 -- Assumes nothing.
 use Prim.Native.Nat.{ℕ}
-use mathlib.Core.Bool.{Bool, not, _&&_}
+use mathlib.Core.Bool.{Bool, cond, not, _&&_}
 use mathlib.Core.Path.{_≡_}
-use lib.Dec.{ltb, eqb}
+use lib.Dec.{ltb, leb, eqb}
 use Rattle.crc.specs.Checksum.{CRC8}
 use Rattle.machine.specs.WellFormed.{bitsFormed}
 use Rattle.state.specs.View.{Core, core, heldCount}
 use Rattle.state.specs.Formed.{chipFormed}
 use Rattle.state.specs.Turns.{Sizes}
 use Rattle.state.specs.declared.Chip.{Chip}
-use Rattle.state_clauses.specs.Clauses.{flagsFormed, timerFieldsFormed, restsWith}
+use Rattle.state_clauses.specs.Clauses.{flagsFormed, timerFieldsFormed}
 
 -- A function that reads fields: its answer is what a definition gives of them, whatever the arrays are that it is not lent.
 abbrev pub ReadsFields : (Core → Bool) → (Chip → Chip) → Bool → Type 0
@@ -25,6 +25,10 @@ Judges lent r = (c : Chip) → Sizes (lent c) → r ≡ chipFormed (lent c)
 abbrev pub firstClear : ℕ → ℕ → ℕ → ℕ → ℕ → ℕ → ℕ → ℕ → Bool
 firstClear page control loaded last enables mode requests errors =
     bitsFormed page control last && (flagsFormed loaded enables requests errors && not (CRC8 mode))
+
+-- Idle with at most 64 bytes held, or CalcCRC with none.
+abbrev pub restsWith : ℕ → ℕ → Bool
+restsWith stage count = cond (eqb stage 0x00) (leb count 64) (eqb stage 0x12 && eqb count 0)
 
 -- The states that a host meets most of the time: every bit of the first eight bytes that always reads 0 is 0 and CRC8 is 0, no programming clocks are
 -- left, the next address is below 200h, Idle holds at most 64 bytes or CalcCRC none, and the timer is formed.

@@ -11,7 +11,7 @@ ghost use mathlib.Core.Path.{_≡_};
 ghost use lib.Dec.{eqb};
 ghost use Rattle.state.specs.Lent.{clocksNumbersState};
 ghost use Rattle.state_clauses.specs.Clauses.{timerFieldsFormed};
-ghost use Rattle.state_formed.specs.Judged.{ReadsFields, Judges, firstClear, usual};
+ghost use Rattle.state_formed.specs.Judged.{ReadsFields, Judges, firstClear, restsWith, usual};
 use state::CONTROL;
 use state::CRC_MODE;
 use state::CRC_REGISTER;
@@ -33,7 +33,6 @@ use state::held;
 use state_clauses::bits_formed;
 use state_clauses::checksum_formed;
 use state_clauses::flags_formed;
-use state_clauses::rests;
 use state_clauses::room;
 use state_clauses::timer_formed;
 use state_clauses::writing_formed;
@@ -69,6 +68,16 @@ fn both(word: u64, left: u32) -> u64
     ensures { λ r. ⌜ eqb r 0 ≡ (eqb word 0 && eqb left 0) ⌝ }
 {
     word | left as u64
+}
+
+// Idle or CalcCRC, with no more bytes than may wait.
+fn rests(stage: u8, count: u8) -> bool
+    ensures { λ r. ⌜ r ≡ restsWith stage count ⌝ }
+{
+    if stage == 0x00 {
+        return count <= 64;
+    }
+    (stage == 0x12) & (count == 0)
 }
 
 // Whether the timer is formed, with one that has stopped first.

@@ -6,8 +6,8 @@ use lib.Dec.{eqb, ltb}
 use borrow.Author.Needs.{needs}
 use borrow.Author.Tests.{eq-eqb, ne-eqb, lt-ltb, le-ltb, not-true, not-false}
 use Rattle.state.specs.View.{Core, coreOf, heldCount}
-use Rattle.state_clauses.specs.Clauses.{timerFieldsFormed, restsWith}
-use Rattle.state_formed.specs.Judged.{usual}
+use Rattle.state_clauses.specs.Clauses.{timerFieldsFormed}
+use Rattle.state_formed.specs.Judged.{restsWith, usual}
 use Rattle.state_clauses.proofs.ByteLaws.{joined}
 use Rattle.state_formed.proofs.quick.Statement.{statement}
 use Rattle.state_formed.proofs.quick.Tie as tie

@@ -1,7 +1,7 @@
--- `state_clauses::rests` meets its contract, at either stage. Assumes nothing.
+-- `state_formed::rests` meets its contract, at either stage. Assumes nothing.
 use borrow.Author.Tests.{eq-eqb, ne-eqb}
-use Rattle.state_clauses.proofs.rests.Statement.{statement}
-use Rattle.state_clauses.proofs.rests.Tie as tie
+use Rattle.state_formed.proofs.rests.Statement.{statement}
+use Rattle.state_formed.proofs.rests.Tie as tie
 
 returns : tie.Need-returns
 returns c = let a = c .before .args in simp (eq-eqb (a .stage) 0x00 (c .if1 .taken))

@@ -8,8 +8,8 @@ use mathlib.Core.List.{List}
 use lib.Dec.{eqb}
 use lib.ListN.{set, length-set}
 use borrow.Author.Tests.{ne-eqb}
-use Rattle.machine.specs.State.{Machine, Writing, addressing, ready, programming, withChecksum}
-use Rattle.machine.specs.Commands.{programs, writingPrograms, clearedErrors, ended, commandStarted, commandWritten}
+use Rattle.machine.specs.State.{Machine, Writing, WriteE2, addressing, ready, programming, withChecksum}
+use Rattle.machine.specs.Commands.{programs, clearedErrors, ended, commandStarted, commandWritten}
 use Rattle.state.specs.View.{Core, commandOf, view, viewOf, withNumbers}
 use Rattle.state.specs.Formed.{writes, fieldsFormed}
 use Rattle.state.specs.Turns.{Sizes, Turned}
@@ -19,8 +19,8 @@ use Rattle.state.proofs.StoreLaws.{at-set, stored}
 use Rattle.state.proofs.TurnLaws.{becomes, sized-numbers}
 
 -- A WriteE2 programs where clocks are left, and no other command does.
-by-left : (none : Bool) (resting : Writing) (a : ℕ) (bs : List ℕ) (left : ℕ) → writingPrograms resting ≡ false →
-    writingPrograms (cond none resting (programming a bs left)) ≡ (not none && true)
+by-left : (none : Bool) (resting : Writing) (a : ℕ) (bs : List ℕ) (left : ℕ) → programs (WriteE2 resting) ≡ false →
+    programs (WriteE2 (cond none resting (programming a bs left))) ≡ (not none && true)
 by-left true resting a bs left rests = rests
 by-left false resting a bs left rests = refl
 

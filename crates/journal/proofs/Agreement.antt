@@ -134,10 +134,10 @@ module _ (image : List ℕ) where
 
   use-held : (u : Use) (j : Journal) → leaveAs u j .held ≡ drop 1 (j .held)
   unfolding leaveAs
-  use-held address j = leave-held e.toAddress j
-  use-held number j = leave-held e.toCount j
-  use-held key j = leave-held e.toKey j
-  use-held checksum j = leave-held e.toChecksum j
+  use-held address j = leave-held (e.left e.address) j
+  use-held number j = leave-held (e.left e.count) j
+  use-held key j = leave-held (e.left e.key) j
+  use-held checksum j = leave-held (e.left e.checksum) j
   use-held memory j = leave-held _ j
 
   drop-next : (n : ℕ) (h : List ℕ) → drop n (drop 1 h) ≡ drop (suc n) h
@@ -150,15 +150,15 @@ module _ (image : List ℕ) where
   uses-held (u ∷ us) j = uses-held us (leaveAs u j) ∙ ap (drop (length us)) (use-held u j) ∙ drop-next (length us) (j .held)
 
   -- Argument and key bytes leave quietly.
-  address-quiet : (b : ℕ) → Quiet (e.toAddress b ∷ [])
+  address-quiet : (b : ℕ) → Quiet (e.left e.address b ∷ [])
   unfolding latestFrom memoryFrom
   address-quiet b = record { no-checksum = λ l. refl; no-memory = λ r. refl }
 
-  count-quiet : (b : ℕ) → Quiet (e.toCount b ∷ [])
+  count-quiet : (b : ℕ) → Quiet (e.left e.count b ∷ [])
   unfolding latestFrom memoryFrom
   count-quiet b = record { no-checksum = λ l. refl; no-memory = λ r. refl }
 
-  key-quiet : (b : ℕ) → Quiet (e.toKey b ∷ [])
+  key-quiet : (b : ℕ) → Quiet (e.left e.key b ∷ [])
   unfolding latestFrom memoryFrom
   key-quiet b = record { no-checksum = λ l. refl; no-memory = λ r. refl }
 
@@ -175,9 +175,9 @@ module _ (image : List ℕ) where
 
   use-quietly : (u : Use) → Plain u → (j : Journal) → Quietly j (leaveAs u j)
   unfolding leaveAs
-  use-quietly address p j = quietly-leave e.toAddress (record { none-in = λ b. refl; one-out = λ b. refl; in-turn = λ n b h. h }) address-quiet j
-  use-quietly number p j = quietly-leave e.toCount (record { none-in = λ b. refl; one-out = λ b. refl; in-turn = λ n b h. h }) count-quiet j
-  use-quietly key p j = quietly-leave e.toKey (record { none-in = λ b. refl; one-out = λ b. refl; in-turn = λ n b h. h }) key-quiet j
+  use-quietly address p j = quietly-leave (e.left e.address) (record { none-in = λ b. refl; one-out = λ b. refl; in-turn = λ n b h. h }) address-quiet j
+  use-quietly number p j = quietly-leave (e.left e.count) (record { none-in = λ b. refl; one-out = λ b. refl; in-turn = λ n b h. h }) count-quiet j
+  use-quietly key p j = quietly-leave (e.left e.key) (record { none-in = λ b. refl; one-out = λ b. refl; in-turn = λ n b h. h }) key-quiet j
   use-quietly checksum p j = absurd p
   use-quietly memory p j = absurd p
 
@@ -190,16 +190,16 @@ module _ (image : List ℕ) where
   journalOf es h base count = record { entries = es; held = h; base = base; count = count }
 
   -- Checksum bytes: all held leave, in order, into the latest CalcCRC's input.
-  checksums : (es : List Entry) (h : List ℕ) (base count : ℕ) → leaveAllAs (replicate (length h) checksum) (journalOf es h base count) ≡ journalOf (es ++ map e.toChecksum h) [] base count
+  checksums : (es : List Entry) (h : List ℕ) (base count : ℕ) → leaveAllAs (replicate (length h) checksum) (journalOf es h base count) ≡ journalOf (es ++ map (e.left e.checksum) h) [] base count
   unfolding leaveAllAs leaveAs leave
   checksums es [] base count = ap (λ (z : List Entry). journalOf z [] base count) (sym (append-nil es))
   checksums es (b ∷ h) base count =
-      checksums (es ++ e.toChecksum b ∷ []) h base count ∙ ap (λ (z : List Entry). journalOf z [] base count) (append-assoc es (e.toChecksum b ∷ []) (map e.toChecksum h))
+      checksums (es ++ e.left e.checksum b ∷ []) h base count ∙ ap (λ (z : List Entry). journalOf z [] base count) (append-assoc es (e.left e.checksum b ∷ []) (map (e.left e.checksum) h))
 
-  absorbing : (h : List ℕ) (l : Latest) → latestFrom l (map e.toChecksum h) ≡ record { mode = l .mode; preset = l .preset; input = l .input ++ h }
+  absorbing : (h : List ℕ) (l : Latest) → latestFrom l (map (e.left e.checksum) h) ≡ record { mode = l .mode; preset = l .preset; input = l .input ++ h }
   unfolding latestFrom
   absorbing [] l = ap (λ (z : List ℕ). record { mode = l .mode; preset = l .preset; input = z }) (sym (append-nil (l .input)))
-  absorbing (b ∷ h) l = absorbing h (noted l (e.toChecksum b)) ∙ ap (λ (z : List ℕ). record { mode = l .mode; preset = l .preset; input = z }) (append-assoc (l .input) (b ∷ []) h)
+  absorbing (b ∷ h) l = absorbing h (noted l (e.left e.checksum b)) ∙ ap (λ (z : List ℕ). record { mode = l .mode; preset = l .preset; input = z }) (append-assoc (l .input) (b ∷ []) h)
 
   -- Memory bytes leave to the place and behind it.
   unfoldable pub placed : ℕ → List ℕ → List Entry
@@ -239,7 +239,7 @@ module _ (image : List ℕ) where
       placed-memory (a + 1) bs (remembered r (e.toMemory a b))
       ∙ ap (λ (z : List Byte). record { image = r .image; bytes = z }) (append-assoc (r .bytes) (record { address = a; value = b } ∷ []) (batch (a + 1) bs))
 
-  checksum-memory : (h : List ℕ) (r : Memory) → memoryFrom r (map e.toChecksum h) ≡ r
+  checksum-memory : (h : List ℕ) (r : Memory) → memoryFrom r (map (e.left e.checksum) h) ≡ r
   unfolding memoryFrom
   checksum-memory [] r = refl
   checksum-memory (b ∷ h) r = checksum-memory h r
@@ -249,13 +249,13 @@ module _ (image : List ℕ) where
       Agrees h c k eeprom f j → Agrees [] c (record { register = absorbedAll (k .mode) (k .register) h; mode = k .mode }) eeprom f (leaveAllAs (replicate (length (j .held)) checksum) j)
   absorbed-agrees h c k eeprom f j a =
       let l = latestFrom noChecksum (j .entries) in
-      let xs = map e.toChecksum (j .held) in
+      let xs = map (e.left e.checksum) (j .held) in
       let unit : Checksum → List ℕ → Checksum = λ z bs. record { register = absorbedAll (z .mode) (z .register) bs; mode = z .mode } in
       let memory : memoryFrom (record { image = image; bytes = [] }) (j .entries ++ xs) ≡ memoryOf j = memory-append _ (j .entries) xs ∙ checksum-memory (j .held) _ in
       subst (Agrees [] c (unit k h) eeprom f) (sym (checksums (j .entries) (j .held) (j .base) (j .count)))
       (record {
         same-held = refl;
-        moved = moves-both (a .moved) (moves-all e.toChecksum (record { none-in = λ b. refl; one-out = λ b. refl; in-turn = λ n b i. i }) (j .held));
+        moved = moves-both (a .moved) (moves-all (e.left e.checksum) (record { none-in = λ b. refl; one-out = λ b. refl; in-turn = λ n b i. i }) (j .held));
         same-checksum =
             ap checksumOf (latest-append noChecksum (j .entries) xs ∙ absorbing (j .held) l)
             ∙ ap (λ (z : ℕ). record { register = z; mode = l .mode }) (in-parts _ (l .preset) (l .input) (j .held))

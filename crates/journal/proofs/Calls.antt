@@ -13,13 +13,14 @@ use Rattle.crc.specs.Checksum.{presetOf, afterBytes}
 use Rattle.machine.specs.State.{Machine, Checksum, Command, Writing, Idle, WriteE2, ReadE2, LoadConfig, LoadKeyE2, LoadKey, CalcCRC, Transmit, Receive, TransceiveSending, TransceiveReceiving, addressing, ready, programming, withCommand, withHeld, withTimer, withPage, withEnables, withRequests, withControl, withBitFraming, withRegisters, withRxLastBits}
 use Rattle.machine.specs.Fifo.{registerAt, offered, offeredAll, flushed, restOf, alerted}
 use Rattle.machine.specs.Timer.{timerStarted, timerStopped, timerClock}
-use Rattle.machine.specs.Commands.{programs, writingPrograms, clearedErrors, commandStarted, commandWritten, checksumStarted, withKeyErr, ended, settled, raisedTx, raisedRx}
+use Rattle.machine.specs.Commands.{programs, clearedErrors, commandStarted, commandWritten, checksumStarted, withKeyErr, ended, settled, raisedTx, raisedRx}
 use Rattle.machine.specs.Registers.{pageWritten, controlWritten, interruptsWritten, registerWritten}
 use Rattle.machine.specs.Events.{batchStored, programmed, commandClocked, clock, clocks, started}
+use Rattle.machine.proofs.Cases.{while-programming}
 use Rattle.journal.specs.Entries as e
-use Rattle.journal.specs.Entries.{Entry, Latest, latestFrom, noChecksum, Memory, memoryFrom}
+use Rattle.journal.specs.Entries.{Entry, Byte, Latest, latestFrom, noChecksum, Memory, memoryFrom}
 use Rattle.journal.specs.Journal.{Journal, entered, offer, offerAll, leave, leaveAll, begun, enterCommand, enterRegister, enterSettled, enterWritten, enterEnd, enterClockOf, enterClocks}
-use Rattle.journal.specs.Demand.{waiting, checksumOf, storedBytes}
+use Rattle.journal.specs.Demand.{batch, waiting, checksumOf, storedBytes}
 use Rattle.journal.proofs.Folds.{latest-append, memory-append}
 use Rattle.journal.proofs.Moves.{Moves, moves-both, moves-mark, Leaving, Marking, Quiet, Quietly, grows-all, quietly-all, quietly-leave}
 use Rattle.machine.specs.Frames.{sending, receiving, sent, received, afterSending, txBegun, txEnded, passed, crcFails, parityFails, withFrameErrors}
@@ -30,19 +31,7 @@ use Rattle.journal.proofs.Timer.{timer-any, timer-command}
 
 -- A command that does not program has no latched bytes.
 idle-latch : (c : Command) → programs c ≡ false → waiting c ≡ []
-idle-latch Idle p = refl
-idle-latch (WriteE2 addressing) p = refl
-idle-latch (WriteE2 (ready a)) p = refl
-idle-latch (WriteE2 (programming a bs left)) p = absurd (true≢false p)
-idle-latch ReadE2 p = refl
-idle-latch LoadConfig p = refl
-idle-latch LoadKeyE2 p = refl
-idle-latch LoadKey p = refl
-idle-latch CalcCRC p = refl
-idle-latch Transmit p = refl
-idle-latch Receive p = refl
-idle-latch TransceiveSending p = refl
-idle-latch TransceiveReceiving p = refl
+idle-latch c p = while-programming (λ (bs : List Byte). bs ≡ []) (λ a bs left. batch a bs) [] c (λ a bs left is. absurd (true≢false (sym (ap programs is) ∙ p))) refl
 
 rest-drop : (h : List ℕ) → drop 1 h ≡ restOf h
 rest-drop [] = refl
@@ -113,22 +102,22 @@ module _ (image : List ℕ) where
       go false is = start-agrees m j a (idle-latch (m .command) is) (v % 64) .agrees
 
   -- A flush.
-  flush-agrees : (m : Machine) (j : Journal) → AgreesWith image m j → AgreesWith image (flushed m) (leaveAll e.toFlush e.flush j)
+  flush-agrees : (m : Machine) (j : Journal) → AgreesWith image m j → AgreesWith image (flushed m) (leaveAll (e.left e.flush) e.flushed j)
   unfolding leaveAll latestFrom memoryFrom
   flush-agrees m j a =
       quietly image a
-      (quietly-all e.toFlush e.flush (record { none-in = λ b. refl; one-out = λ b. refl; in-turn = λ n b h. h }) (record { none-in = refl; none-out = refl; in-turn = λ n. tt })
+      (quietly-all (e.left e.flush) e.flushed (record { none-in = λ b. refl; one-out = λ b. refl; in-turn = λ n b h. h }) (record { none-in = refl; none-out = refl; in-turn = λ n. tt })
       (λ b. record { no-checksum = λ l. refl; no-memory = λ r. refl }) (record { no-checksum = λ l. refl; no-memory = λ r. refl }) j)
       refl refl (a .same-place) (a .key-clear)
 
-  control-agrees : (v : ℕ) (m : Machine) (j : Journal) → AgreesWith image m j → AgreesWith image (controlWritten v m) (cond (bitSet v 0) (leaveAll e.toFlush e.flush j) j)
+  control-agrees : (v : ℕ) (m : Machine) (j : Journal) → AgreesWith image m j → AgreesWith image (controlWritten v m) (cond (bitSet v 0) (leaveAll (e.left e.flush) e.flushed j) j)
   control-agrees v m j a = go (bitSet v 0) (bitSet v 2) (bitSet v 1)
     where
       go : (f s t : Bool) →
           let flushes = cond f (flushed m) m in
           let stops = cond s (timerStopped flushes) flushes in
           let starts = cond t (timerStarted stops) stops in
-          AgreesWith image (withControl (32 * bit v 5 + 16 * bit v 4) starts) (cond f (leaveAll e.toFlush e.flush j) j)
+          AgreesWith image (withControl (32 * bit v 5 + 16 * bit v 4) starts) (cond f (leaveAll (e.left e.flush) e.flushed j) j)
       go true true true = flush-agrees m j a
       go true true false = flush-agrees m j a
       go true false true = flush-agrees m j a
@@ -144,7 +133,7 @@ module _ (image : List ℕ) where
   register-agrees r v m j a = go (eqb (r % 8) 0) (eqb r 0x01) (eqb r 0x02) (eqb r 0x06) refl (eqb r 0x07) refl (eqb r 0x09) refl (eqb r 0x0F) (leb 0x10 r && ltb r 0x30)
     where
       control : Journal
-      control = cond (bitSet v 0) (leaveAll e.toFlush e.flush j) j
+      control = cond (bitSet v 0) (leaveAll (e.left e.flush) e.flushed j) j
 
       other : (n : ℕ) (x : Machine) → r ≡ n → eqb n 0x09 ≡ false → AgreesWith image x j → AgreesWith image x (cond (eqb r 0x09) control j)
       other n x is differs b = subst (λ (t : Bool). AgreesWith image x (cond t control j)) (sym (ap (λ (z : ℕ). eqb z 0x09) is ∙ differs)) b
@@ -223,21 +212,21 @@ module _ (image : List ℕ) where
       clocks-agree n (clock m) (enterClockOf (m .command) (timerClock m) j) (command-clocked (m .command) (timerClock m) j (timer-command m) (timer-agrees m j a))
 
   -- A host read.
-  pub read-agrees : (t : Bool) (m : Machine) (j : Journal) → AgreesWith image m j → AgreesWith image (cond t (alerted m (withHeld (restOf (m .held)) m)) m) (cond t (leave e.toHost j) j)
+  pub read-agrees : (t : Bool) (m : Machine) (j : Journal) → AgreesWith image m j → AgreesWith image (cond t (alerted m (withHeld (restOf (m .held)) m)) m) (cond t (leave (e.left e.host) j) j)
   unfolding alerted latestFrom memoryFrom
   read-agrees true m j a =
       quietly image a
-      (quietly-leave e.toHost (record { none-in = λ b. refl; one-out = λ b. refl; in-turn = λ n b h. h }) (λ b. record { no-checksum = λ l. refl; no-memory = λ r. refl }) j)
-      (leave-held image e.toHost j ∙ ap (drop 1) (a .same-held) ∙ rest-drop (m .held)) refl (a .same-place) (a .key-clear)
+      (quietly-leave (e.left e.host) (record { none-in = λ b. refl; one-out = λ b. refl; in-turn = λ n b h. h }) (λ b. record { no-checksum = λ l. refl; no-memory = λ r. refl }) j)
+      (leave-held image (e.left e.host) j ∙ ap (drop 1) (a .same-held) ∙ rest-drop (m .held)) refl (a .same-place) (a .key-clear)
   read-agrees false m j a = a
 
   -- A take.
   frame-all : (h : List ℕ) (c : Command) (k : Checksum) (eeprom : List ℕ) (f g : Bool) (j : Journal) (c′ : Command) → waiting c′ ≡ waiting c → PlaceIs c′ (j .base) (j .count) → KeyClear c′ g →
-      Agrees image h c k eeprom f j → Agrees image [] c′ k eeprom g (leaveAll e.toFrame e.take j)
+      Agrees image h c k eeprom f j → Agrees image [] c′ k eeprom g (leaveAll (e.left e.frame) e.tookFrame j)
   unfolding leaveAll latestFrom memoryFrom
   frame-all h c k eeprom f g j c′ wait place clear a =
       quietly image a
-      (quietly-all e.toFrame e.take (record { none-in = λ b. refl; one-out = λ b. refl; in-turn = λ n b i. i }) (record { none-in = refl; none-out = refl; in-turn = λ n. tt })
+      (quietly-all (e.left e.frame) e.tookFrame (record { none-in = λ b. refl; one-out = λ b. refl; in-turn = λ n b i. i }) (record { none-in = refl; none-out = refl; in-turn = λ n. tt })
       (λ b. record { no-checksum = λ l. refl; no-memory = λ r. refl }) (record { no-checksum = λ l. refl; no-memory = λ r. refl }) j)
       refl wait place clear
 
@@ -256,13 +245,13 @@ module _ (image : List ℕ) where
       begins true = ends (timerStarted x) q r
       begins false = ends x p q
 
-  sent-as : (c : Command) (m : Machine) (j : Journal) → m .command ≡ c → sending c ≡ true → AgreesWith image m j → AgreesWith image (afterSending c (raisedTx (txEnded (txBegun (withHeld [] m))))) (leaveAll e.toFrame e.take j)
+  sent-as : (c : Command) (m : Machine) (j : Journal) → m .command ≡ c → sending c ≡ true → AgreesWith image m j → AgreesWith image (afterSending c (raisedTx (txEnded (txBegun (withHeld [] m))))) (leaveAll (e.left e.frame) e.tookFrame j)
   sent-as Transmit m j is s a =
       let b = frame-all (m .held) (m .command) (m .checksum) (m .eeprom) (m .status .errors .keyErr) (m .status .errors .keyErr) j Idle (sym (ap waiting is)) tt tt a in
-      tx-either (λ y. AgreesWith image (ended (raisedTx y)) (leaveAll e.toFrame e.take j)) (withHeld [] m) b b b
+      tx-either (λ y. AgreesWith image (ended (raisedTx y)) (leaveAll (e.left e.frame) e.tookFrame j)) (withHeld [] m) b b b
   sent-as TransceiveSending m j is s a =
       let b = frame-all (m .held) (m .command) (m .checksum) (m .eeprom) (m .status .errors .keyErr) (m .status .errors .keyErr) j TransceiveReceiving (sym (ap waiting is)) tt tt a in
-      tx-either (λ y. AgreesWith image (withCommand TransceiveReceiving (raisedTx y)) (leaveAll e.toFrame e.take j)) (withHeld [] m) b b b
+      tx-either (λ y. AgreesWith image (withCommand TransceiveReceiving (raisedTx y)) (leaveAll (e.left e.frame) e.tookFrame j)) (withHeld [] m) b b b
   sent-as Idle m j is s a = absurd (false≢true s)
   sent-as (WriteE2 w) m j is s a = absurd (false≢true s)
   sent-as ReadE2 m j is s a = absurd (false≢true s)
@@ -273,7 +262,7 @@ module _ (image : List ℕ) where
   sent-as Receive m j is s a = absurd (false≢true s)
   sent-as TransceiveReceiving m j is s a = absurd (false≢true s)
 
-  pub sent-agrees : (m n : Machine) (j : Journal) → sending (m .command) ≡ true → AgreesWith image m j → AgreesWith image (alerted n (sent m)) (leaveAll e.toFrame e.take j)
+  pub sent-agrees : (m n : Machine) (j : Journal) → sending (m .command) ≡ true → AgreesWith image m j → AgreesWith image (alerted n (sent m)) (leaveAll (e.left e.frame) e.tookFrame j)
   unfolding alerted sent
   sent-agrees m n j s a = sent-as (m .command) m j refl s a
 
@@ -313,13 +302,13 @@ module _ (image : List ℕ) where
 
   -- A later start.
   pub started-agrees : (image′ : List ℕ) (j : Journal) {h : List ℕ} {c : Command} {k : Checksum} {eeprom : List ℕ} {f : Bool} → length image′ ≡ 512 → Agrees image h c k eeprom f j →
-      AgreesWith image (started image′) (leaveAll e.toStart (e.start image′) j)
+      AgreesWith image (started image′) (leaveAll (e.left e.start) (e.started image′) j)
   unfolding started leaveAll latestFrom memoryFrom storedBytes afterBytes
   started-agrees image′ j size a =
-      let g = grows-all e.toStart (e.start image′) (record { none-in = λ b. refl; one-out = λ b. refl; in-turn = λ n b i. i }) (record { none-in = refl; none-out = refl; in-turn = λ n. tt }) j in
-      let latest : latestFrom noChecksum (leaveAll e.toStart (e.start image′) j .entries) ≡ noChecksum = latest-append noChecksum (j .entries ++ map e.toStart (j .held)) (e.start image′ ∷ []) in
-      let memory : memoryFrom (record { image = image; bytes = [] }) (leaveAll e.toStart (e.start image′) j .entries) ≡ record { image = image′; bytes = [] } =
-      memory-append _ (j .entries ++ map e.toStart (j .held)) (e.start image′ ∷ []) in
+      let g = grows-all (e.left e.start) (e.started image′) (record { none-in = λ b. refl; one-out = λ b. refl; in-turn = λ n b i. i }) (record { none-in = refl; none-out = refl; in-turn = λ n. tt }) j in
+      let latest : latestFrom noChecksum (leaveAll (e.left e.start) (e.started image′) j .entries) ≡ noChecksum = latest-append noChecksum (j .entries ++ map (e.left e.start) (j .held)) (e.started image′ ∷ []) in
+      let memory : memoryFrom (record { image = image; bytes = [] }) (leaveAll (e.left e.start) (e.started image′) j .entries) ≡ record { image = image′; bytes = [] } =
+      memory-append _ (j .entries ++ map (e.left e.start) (j .held)) (e.started image′ ∷ []) in
       record {
         same-held = refl;
         moved = subst (λ (z : List Entry). Moves [] z []) (sym (g .added)) (moves-both (a .moved) (g .moved));

@@ -45,16 +45,16 @@ module _ (image : List ℕ) where
   -- Every call enters no key byte, or twelve that are judged.
   accepted-keys : (c : Call) (m : Machine) (j : Journal) → AgreesWith image m j → KeyCall j (enterAccepted c m j) (accepted m c .next)
   unfolding written alerted
-  accepted-keys (start image′) m j a = key-none j _ _ (all-keyless e.toStart (e.start image′) (λ b. refl) refl j)
+  accepted-keys (start image′) m j a = key-none j _ _ (all-keyless (e.left e.start) (e.started image′) (λ b. refl) refl j)
   accepted-keys (hostRead address) m j a = go (eqb (mapped (m .page) address) 0x02)
     where
-      go : (t : Bool) → KeyCall j (cond t (leave e.toHost j) j) (afterRead address m)
-      go true = key-none j _ _ (leave-keyless e.toHost (λ b. refl) j)
+      go : (t : Bool) → KeyCall j (cond t (leave (e.left e.host) j) j) (afterRead address m)
+      go true = key-none j _ _ (leave-keyless (e.left e.host) (λ b. refl) j)
       go false = key-none j _ _ refl
   accepted-keys (hostWrite address v) m j a =
       let k = written-keys image (mapped (m .page) address) v m j a in record { bytes = k .bytes; entered-keys = k .entered-keys; judged = k .judged }
   accepted-keys (advance n) m j a = key-none j _ _ (clocks-keyless image n m j)
-  accepted-keys (takeFrame buffer) m j a = key-none j _ _ (all-keyless e.toFrame e.take (λ b. refl) refl j)
+  accepted-keys (takeFrame buffer) m j a = key-none j _ _ (all-keyless (e.left e.frame) e.tookFrame (λ b. refl) refl j)
   accepted-keys (deliver bytes parities lastBits) m j a = key-none j _ _ (offers-keyless _ j)
 
   call-keys : (c : Call) (m : Machine) (j : Journal) → AgreesWith image m j → KeyCall j (enter c m j) (perform m c .next)
@@ -101,8 +101,8 @@ module _ (image : List ℕ) where
     unfolding enter leave
     empty-read address none = go (eqb (refusal m (hostRead address)) 0) (eqb (mapped (m .page) address) 0x02)
       where
-        go : (t u : Bool) → cond t (cond u (leaveFrom (j .held) e.toHost j) j) j ≡ j
-        go true true = ap (λ (h : List ℕ). leaveFrom h e.toHost j) none
+        go : (t u : Bool) → cond t (cond u (leaveFrom (j .held) (e.left e.host) j) j) j ≡ j
+        go true true = ap (λ (h : List ℕ). leaveFrom h (e.left e.host) j) none
         go true false = refl
         go false u = refl
 

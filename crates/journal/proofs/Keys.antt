@@ -14,12 +14,13 @@ use Rattle.key.specs.Key.{formatHolds, judgedKey}
 use Rattle.machine.specs.State.{Machine, Key, Command, Writing, Idle, WriteE2, ReadE2, LoadConfig, LoadKeyE2, LoadKey, CalcCRC, Transmit, Receive, TransceiveSending, TransceiveReceiving, addressing, ready, programming, withCommand}
 use Rattle.machine.specs.Memory.{roomInBlock, programmingClocks}
 use Rattle.machine.specs.Timer.{timerClock}
-use Rattle.machine.specs.Commands.{programs, commandWritten, enough, taken, ended, withAccessErr, raisedTx, checksumTaken, keyJudged, steppedAs, stepped, settled, readBytes}
+use Rattle.machine.specs.Commands.{codeOf, programs, commandWritten, enough, taken, ended, withAccessErr, raisedTx, checksumTaken, keyJudged, steppedAs, stepped, settled, readBytes}
 use Rattle.machine.specs.Registers.{registerWritten}
 use Rattle.machine.specs.Events.{batchStored, clock}
+use Rattle.machine.proofs.Cases.{within-write-e2, while-programming}
 use Rattle.journal.specs.Entries as e
 use Rattle.journal.specs.Entries.{Entry, collect, keyBytes}
-use Rattle.journal.specs.Journal.{Journal, entered, offer, offerAll, leaveFrom, leave, leaveAll, Use, address, number, key, checksum, memory, counted, leaveAs, leaveAllAs, wanted, usesOf, usesOfWriting, based, basedBy, addressHeld, offersOf, enterStep, enterSettled, begun, enterCommand, enterRegister, enterWritten, enterEnd, enterClockOf, enterClocks}
+use Rattle.journal.specs.Journal.{Journal, entered, offer, offerAll, leaveFrom, leave, leaveAll, Use, address, number, key, checksum, memory, counted, leaveAs, leaveAllAs, wanted, usesOf, usesOfWriting, based, basedWithin, basedBy, addressHeld, offersOf, enterStep, enterSettled, begun, enterCommand, enterRegister, enterWritten, enterEnd, enterClockOf, enterClocks}
 use Rattle.journal.proofs.Folds.{collect-append}
 use Rattle.journal.proofs.Agreement.{Agrees, AgreesWith, KeyClear}
 use Rattle.journal.proofs.Calls.{register-agrees}
@@ -85,10 +86,10 @@ NoKeys (u ∷ us) = NoKey u × NoKeys us
 
 use-keyless : (u : Use) → NoKey u → (j : Journal) → Keyless j (leaveAs u j)
 unfolding leaveAs
-use-keyless address p j = leave-keyless e.toAddress (λ b. refl) j
-use-keyless number p j = leave-keyless e.toCount (λ b. refl) j
+use-keyless address p j = leave-keyless (e.left e.address) (λ b. refl) j
+use-keyless number p j = leave-keyless (e.left e.count) (λ b. refl) j
 use-keyless key p j = absurd p
-use-keyless checksum p j = leave-keyless e.toChecksum (λ b. refl) j
+use-keyless checksum p j = leave-keyless (e.left e.checksum) (λ b. refl) j
 use-keyless memory p j = leave-keyless (e.toMemory (j .base + j .count)) (λ b. refl) j
 
 uses-keyless : (us : List Use) → NoKeys us → (j : Journal) → Keyless j (leaveAllAs us j)
@@ -102,17 +103,7 @@ repeated (suc n) u p = (p, repeated n u p)
 
 -- Every command but LoadKey takes no key byte.
 abbrev isLoadKey : Command → Bool
-isLoadKey LoadKey = true
-isLoadKey Idle = false
-isLoadKey (WriteE2 w) = false
-isLoadKey ReadE2 = false
-isLoadKey LoadConfig = false
-isLoadKey LoadKeyE2 = false
-isLoadKey CalcCRC = false
-isLoadKey Transmit = false
-isLoadKey Receive = false
-isLoadKey TransceiveSending = false
-isLoadKey TransceiveReceiving = false
+isLoadKey c = eqb (codeOf c) 0x19
 
 wanted-none : (t : Bool) (us : List Use) → NoKeys us → NoKeys (cond t us [])
 wanted-none true us p = p
@@ -134,23 +125,16 @@ uses-none TransceiveSending n h = tt
 uses-none TransceiveReceiving n h = tt
 
 based-keyless : (c : Command) (before j : Journal) → Keyless j (basedBy c before j)
-based-keyless Idle before j = refl
-based-keyless (WriteE2 addressing) before j = go (leb 2 (length (before .held)))
+based-keyless c before j = within-write-e2 (Keyless j) (λ w. basedWithin w before j) j c (λ w is. within w) refl
   where
     go : (t : Bool) → Keyless j (cond t (based (addressHeld before) j) j)
     go true = refl
     go false = refl
-based-keyless (WriteE2 (ready a)) before j = refl
-based-keyless (WriteE2 (programming a bs left)) before j = refl
-based-keyless ReadE2 before j = refl
-based-keyless LoadConfig before j = refl
-based-keyless LoadKeyE2 before j = refl
-based-keyless LoadKey before j = refl
-based-keyless CalcCRC before j = refl
-based-keyless Transmit before j = refl
-based-keyless Receive before j = refl
-based-keyless TransceiveSending before j = refl
-based-keyless TransceiveReceiving before j = refl
+
+    within : (w : Writing) → Keyless j (basedWithin w before j)
+    within addressing = go (leb 2 (length (before .held)))
+    within (ready a) = refl
+    within (programming a bs left) = refl
 
 step-keyless : (m : Machine) (j : Journal) → isLoadKey (m .command) ≡ false → Keyless j (enterStep m j)
 unfolding enterStep
@@ -192,8 +176,8 @@ unfolding leaveAllAs leaveAs leave collect
 key-bytes zero es h base count = sym (append-nil (collect keyBytes es))
 key-bytes (suc n) es [] base count = key-bytes n es [] base count ∙ ap (λ (z : List ℕ). collect keyBytes es ++ z) (take-nil n)
 key-bytes (suc n) es (b ∷ h) base count =
-    key-bytes n (es ++ e.toKey b ∷ []) h base count
-    ∙ ap (λ (z : List ℕ). z ++ take n h) (collect-append keyBytes es (e.toKey b ∷ []))
+    key-bytes n (es ++ e.left e.key b ∷ []) h base count
+    ∙ ap (λ (z : List ℕ). z ++ take n h) (collect-append keyBytes es (e.left e.key b ∷ []))
     ∙ append-assoc (collect keyBytes es) (b ∷ []) (take n h)
 
 -- What is judged from key bytes: nothing where there are none.
@@ -266,29 +250,19 @@ module _ (image : List ℕ) where
       go TransceiveReceiving is = key-none j _ (settled m) (settle-keyless m j (ap isLoadKey is))
 
   -- A host write.
-  begun-keyless : (c : Command) (m : Machine) (j : Journal) → Keyless j (begun c m j)
-  begun-keyless CalcCRC m j = plain-entry (j .entries) _ refl
-  begun-keyless Idle m j = refl
-  begun-keyless (WriteE2 w) m j = refl
-  begun-keyless ReadE2 m j = refl
-  begun-keyless LoadConfig m j = refl
-  begun-keyless LoadKeyE2 m j = refl
-  begun-keyless LoadKey m j = refl
-  begun-keyless Transmit m j = refl
-  begun-keyless Receive m j = refl
-  begun-keyless TransceiveSending m j = refl
-  begun-keyless TransceiveReceiving m j = refl
-
   one-of : (j : Journal) (t : Bool) (x y : Journal) → Keyless j x → Keyless j y → Keyless j (cond t x y)
   one-of j true x y p q = p
   one-of j false x y p q = q
+
+  begun-keyless : (c : Command) (m : Machine) (j : Journal) → Keyless j (begun c m j)
+  begun-keyless c m j = one-of j (eqb (codeOf c) 0x12) _ j (plain-entry (j .entries) _ refl) refl
 
   register-keyless : (r v : ℕ) (m : Machine) (j : Journal) → Keyless j (enterRegister r v m j)
   register-keyless r v m j =
       one-of j (eqb (r % 8) 0) j _ refl
       (one-of j (eqb r 0x01) (enterCommand v m j) _ (one-of j (programs (m .command)) j _ refl (begun-keyless (commandWritten v m .command) m j))
       (one-of j (eqb r 0x02) (offer v j) _ (offer-keyless v j)
-      (one-of j (eqb r 0x09) (cond (bitSet v 0) (leaveAll e.toFlush e.flush j) j) j (one-of j (bitSet v 0) (leaveAll e.toFlush e.flush j) j (all-keyless e.toFlush e.flush (λ b. refl) refl j) refl) refl)))
+      (one-of j (eqb r 0x09) (cond (bitSet v 0) (leaveAll (e.left e.flush) e.flushed j) j) j (one-of j (bitSet v 0) (leaveAll (e.left e.flush) e.flushed j) j (all-keyless (e.left e.flush) e.flushed (λ b. refl) refl j) refl) refl)))
 
   pub written-keys : (r v : ℕ) (m : Machine) (j : Journal) → AgreesWith image m j → KeyCall j (enterWritten r v m j) (settled (registerWritten r v m))
   unfolding enterWritten
@@ -302,20 +276,11 @@ module _ (image : List ℕ) where
 
   -- Clocks enter no key byte.
   clock-keyless : (c : Command) (m : Machine) (j : Journal) → Keyless j (enterClockOf c m j)
-  clock-keyless (WriteE2 (programming s bs left)) m j =
-      one-of j (leb left 1) (enterEnd s bs m j) j (one-of j (eqb (length (j .held)) 0) j _ refl (settle-keyless (batchStored s bs m) j refl)) refl
-  clock-keyless (WriteE2 addressing) m j = refl
-  clock-keyless (WriteE2 (ready a)) m j = refl
-  clock-keyless Idle m j = refl
-  clock-keyless ReadE2 m j = refl
-  clock-keyless LoadConfig m j = refl
-  clock-keyless LoadKeyE2 m j = refl
-  clock-keyless LoadKey m j = refl
-  clock-keyless CalcCRC m j = refl
-  clock-keyless Transmit m j = refl
-  clock-keyless Receive m j = refl
-  clock-keyless TransceiveSending m j = refl
-  clock-keyless TransceiveReceiving m j = refl
+  clock-keyless c m j =
+      while-programming (Keyless j) (λ s bs left. cond (leb left 1) (enterEnd s bs m j) j) j c
+      (λ s bs left is.
+      one-of j (leb left 1) (enterEnd s bs m j) j (one-of j (eqb (length (j .held)) 0) j _ refl (settle-keyless (batchStored s bs m) j refl)) refl)
+      refl
 
   pub clocks-keyless : (n : ℕ) (m : Machine) (j : Journal) → Keyless j (enterClocks n m j)
   unfolding enterClocks

@@ -16,7 +16,8 @@ use Rattle.machine.specs.Memory.{storedFrom, roomInBlock, programmingClocks}
 use Rattle.machine.specs.Timer.{timerClock}
 use Rattle.journal.proofs.Timer.{timer-eeprom, timer-command}
 use Rattle.machine.specs.Commands.{programs, enough, taken, ended, withAccessErr, latched, raisedTx, steppedAs, stepped, settled}
-use Rattle.machine.specs.Events.{batchStored, programmed, commandClocked, clock, clocks}
+use Rattle.machine.specs.Events.{batchStored, programmed, programmingClocked, commandClocked, clock, clocks}
+use Rattle.machine.proofs.Cases.{while-programming}
 
 -- A byte below the stored ones is as it was; each stored byte stands at its address.
 stored-below : (bs eeprom : List ℕ) (a k : ℕ) → k < a → getD (storedFrom eeprom a bs) k 0 ≡ getD eeprom k 0
@@ -39,19 +40,8 @@ stored-at (b ∷ bs) eeprom a (suc i) fits h =
 
 -- A command that does not program stands while clocks come.
 plain-clocked : (c : Command) (n : Machine) → programs c ≡ false → commandClocked c n ≡ n
-plain-clocked Idle n p = refl
-plain-clocked (WriteE2 addressing) n p = refl
-plain-clocked (WriteE2 (ready a)) n p = refl
-plain-clocked (WriteE2 (programming a bs left)) n p = absurd (true≢false p)
-plain-clocked ReadE2 n p = refl
-plain-clocked LoadConfig n p = refl
-plain-clocked LoadKeyE2 n p = refl
-plain-clocked LoadKey n p = refl
-plain-clocked CalcCRC n p = refl
-plain-clocked Transmit n p = refl
-plain-clocked Receive n p = refl
-plain-clocked TransceiveSending n p = refl
-plain-clocked TransceiveReceiving n p = refl
+plain-clocked c n p =
+    while-programming (λ (f : Machine → Machine). f n ≡ n) programmingClocked (λ m. m) c (λ a bs left is. absurd (true≢false (sym (ap programs is) ∙ p))) refl
 
 plain-stands : (n : ℕ) (m : Machine) → programs (m .command) ≡ false → clocks n m .eeprom ≡ m .eeprom
 unfolding clocks clock

@@ -8,7 +8,7 @@ use mathlib.Core.List.{List, [], _∷_, _++_}
 use lib.ListN.{length, take, getD, set}
 use Rattle.crc.specs.Checksum.{absorbedAll, resultOf}
 use Rattle.key.specs.Key.{formatHolds, judgedKey}
-use Rattle.machine.specs.State.{Machine, Checksum, Key, Command, Idle, WriteE2, ReadE2, LoadConfig, LoadKeyE2, LoadKey, CalcCRC, Transmit, Receive, TransceiveSending, TransceiveReceiving, addressing, ready, programming}
+use Rattle.machine.specs.State.{Machine, Checksum, Key, Command, WriteE2, programming, whileProgramming}
 use Rattle.machine.specs.Fifo.{firstOf}
 use Rattle.machine.specs.Registers.{mapped, crcResult}
 use Rattle.machine.specs.Refusals.{Call, hostRead, advance, takeFrame, refusal}
@@ -32,19 +32,7 @@ batch a (b ∷ bs) = record { address = a; value = b } ∷ batch (a + 1) bs
 
 -- The memory bytes whose programming has not ended.
 abbrev pub waiting : Command → List Byte
-waiting Idle = []
-waiting (WriteE2 addressing) = []
-waiting (WriteE2 (ready a)) = []
-waiting (WriteE2 (programming a bs left)) = batch a bs
-waiting ReadE2 = []
-waiting LoadConfig = []
-waiting LoadKeyE2 = []
-waiting LoadKey = []
-waiting CalcCRC = []
-waiting Transmit = []
-waiting Receive = []
-waiting TransceiveSending = []
-waiting TransceiveReceiving = []
+waiting c = whileProgramming (λ a bs left. batch a bs) [] c
 
 -- An image with memory bytes stored, one after the other.
 unfoldable pub storedBytes : List ℕ → List Byte → List ℕ

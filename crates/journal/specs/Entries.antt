@@ -3,67 +3,76 @@
 use Prim.Native.Nat.{ℕ, _+_, _-_, _<_, _≤_}
 use mathlib.Core.Bool.{Bool, true, false, cond}
 use mathlib.Core.List.{List, [], _∷_, _++_, map}
-use lib.Dec.{ltb}
+use lib.Dec.{eqb}
 use lib.ListN.{length}
 use Rattle.crc.specs.Checksum.{presetOf}
+
+-- What a byte left to.
+pub data Destination : Type 0 where
+  -- a host read, as its answer
+  host : Destination
+  -- a command, as one of its address, count, key or checksum bytes
+  address : Destination
+  count : Destination
+  key : Destination
+  checksum : Destination
+  -- with all others that were held: a take, a flush or a start
+  frame : Destination
+  flush : Destination
+  start : Destination
+
+-- A number for each, by which they are told apart.
+abbrev pub numberOf : Destination → ℕ
+numberOf host = 0
+numberOf address = 1
+numberOf count = 2
+numberOf key = 3
+numberOf checksum = 4
+numberOf frame = 5
+numberOf flush = 6
+numberOf start = 7
+
+abbrev pub same : Destination → Destination → Bool
+same d e = eqb (numberOf d) (numberOf e)
 
 pub data Entry : Type 0 where
   -- a byte that was offered: it joined the held list, or it was refused
   takenIn : ℕ → Entry
   turnedAway : ℕ → Entry
-  -- a byte that left: to a host read, or to a command as one of its argument, key, checksum or memory bytes
-  toHost : ℕ → Entry
-  toAddress : ℕ → Entry
-  toCount : ℕ → Entry
-  toKey : ℕ → Entry
-  toChecksum : ℕ → Entry
-  -- the address and the byte
+  -- a byte that left the held list, and what it left to
+  left : Destination → ℕ → Entry
+  -- a byte that left to WriteE2, as the memory byte of this address
   toMemory : ℕ → ℕ → Entry
-  -- a byte that left with all others: to a take, a flush or a start
-  toFrame : ℕ → Entry
-  toFlush : ℕ → Entry
-  toStart : ℕ → Entry
   -- a take, a flush, a later start with its image: "which is entered too"
-  take : Entry
-  flush : Entry
-  start : List ℕ → Entry
+  tookFrame : Entry
+  flushed : Entry
+  started : List ℕ → Entry
   -- a CalcCRC began, with the mode and presets that it read
   calcCRC : ℕ → ℕ → ℕ → Entry
 
--- The byte that an entry takes in, and the byte that leaves by it, where there is one.
+-- What is read off an entry by its byte: of one taken in, of one that left to a destination, of one that left to memory, and of any other entry.
+abbrev pub ofByte : {X : Type 0} → (ℕ → X) → (Destination → ℕ → X) → (ℕ → ℕ → X) → X → Entry → X
+ofByte taken out stored other (takenIn b) = taken b
+ofByte taken out stored other (turnedAway b) = other
+ofByte taken out stored other (left to b) = out to b
+ofByte taken out stored other (toMemory a b) = stored a b
+ofByte taken out stored other tookFrame = other
+ofByte taken out stored other flushed = other
+ofByte taken out stored other (started image) = other
+ofByte taken out stored other (calcCRC mode lsb msb) = other
+
+-- The byte that an entry takes in, the byte that leaves by it, and the byte that leaves to one destination, where there is one.
 abbrev pub bytesIn : Entry → List ℕ
-bytesIn (takenIn b) = b ∷ []
-bytesIn (turnedAway b) = []
-bytesIn (toHost b) = []
-bytesIn (toAddress b) = []
-bytesIn (toCount b) = []
-bytesIn (toKey b) = []
-bytesIn (toChecksum b) = []
-bytesIn (toMemory a b) = []
-bytesIn (toFrame b) = []
-bytesIn (toFlush b) = []
-bytesIn (toStart b) = []
-bytesIn take = []
-bytesIn flush = []
-bytesIn (start image) = []
-bytesIn (calcCRC mode lsb msb) = []
+bytesIn e = ofByte (λ b. b ∷ []) (λ to b. []) (λ a b. []) [] e
 
 abbrev pub bytesOut : Entry → List ℕ
-bytesOut (takenIn b) = []
-bytesOut (turnedAway b) = []
-bytesOut (toHost b) = b ∷ []
-bytesOut (toAddress b) = b ∷ []
-bytesOut (toCount b) = b ∷ []
-bytesOut (toKey b) = b ∷ []
-bytesOut (toChecksum b) = b ∷ []
-bytesOut (toMemory a b) = b ∷ []
-bytesOut (toFrame b) = b ∷ []
-bytesOut (toFlush b) = b ∷ []
-bytesOut (toStart b) = b ∷ []
-bytesOut take = []
-bytesOut flush = []
-bytesOut (start image) = []
-bytesOut (calcCRC mode lsb msb) = []
+bytesOut e = ofByte (λ b. []) (λ to b. b ∷ []) (λ a b. b ∷ []) [] e
+
+abbrev pub bytesTo : Destination → Entry → List ℕ
+bytesTo d e = ofByte (λ b. []) (λ to b. cond (same to d) (b ∷ []) []) (λ a b. []) [] e
+
+abbrev pub keyBytes : Entry → List ℕ
+keyBytes e = bytesTo key e
 
 -- What f finds in the entries, in their order.
 unfoldable pub collect : {X : Type 0} → (Entry → List X) → List Entry → List X
@@ -75,18 +84,11 @@ collect f (e ∷ es) = f e ++ collect f es
 abbrev pub turn : ℕ → Entry → Type 0
 turn n (takenIn b) = n < 64
 turn n (turnedAway b) = 64 ≤ n
-turn n (toHost b) = 1 ≤ n
-turn n (toAddress b) = 1 ≤ n
-turn n (toCount b) = 1 ≤ n
-turn n (toKey b) = 1 ≤ n
-turn n (toChecksum b) = 1 ≤ n
+turn n (left to b) = 1 ≤ n
 turn n (toMemory a b) = 1 ≤ n
-turn n (toFrame b) = 1 ≤ n
-turn n (toFlush b) = 1 ≤ n
-turn n (toStart b) = 1 ≤ n
-turn n take = Unit {0}
-turn n flush = Unit {0}
-turn n (start image) = Unit {0}
+turn n tookFrame = Unit {0}
+turn n flushed = Unit {0}
+turn n (started image) = Unit {0}
 turn n (calcCRC mode lsb msb) = Unit {0}
 
 abbrev pub countAfter : ℕ → Entry → ℕ
@@ -105,21 +107,17 @@ pub record Latest : Type 0 where
 abbrev pub noChecksum : Latest
 noChecksum = record { mode = 0; preset = 0; input = [] }
 
+abbrev pub fed : ℕ → Latest → Latest
+fed b l = record { mode = l .mode; preset = l .preset; input = l .input ++ b ∷ [] }
+
 abbrev pub noted : Latest → Entry → Latest
 noted l (takenIn b) = l
 noted l (turnedAway b) = l
-noted l (toHost b) = l
-noted l (toAddress b) = l
-noted l (toCount b) = l
-noted l (toKey b) = l
-noted l (toChecksum b) = record { mode = l .mode; preset = l .preset; input = l .input ++ b ∷ [] }
+noted l (left to b) = cond (same to checksum) (fed b l) l
 noted l (toMemory a b) = l
-noted l (toFrame b) = l
-noted l (toFlush b) = l
-noted l (toStart b) = l
-noted l take = l
-noted l flush = l
-noted l (start image) = noChecksum
+noted l tookFrame = l
+noted l flushed = l
+noted l (started image) = noChecksum
 noted l (calcCRC mode lsb msb) = record { mode = mode; preset = presetOf mode lsb msb; input = [] }
 
 unfoldable pub latestFrom : Latest → List Entry → Latest
@@ -138,38 +136,13 @@ pub record Memory : Type 0 where
 abbrev pub remembered : Memory → Entry → Memory
 remembered r (takenIn b) = r
 remembered r (turnedAway b) = r
-remembered r (toHost b) = r
-remembered r (toAddress b) = r
-remembered r (toCount b) = r
-remembered r (toKey b) = r
-remembered r (toChecksum b) = r
+remembered r (left to b) = r
 remembered r (toMemory a b) = record { image = r .image; bytes = r .bytes ++ record { address = a; value = b } ∷ [] }
-remembered r (toFrame b) = r
-remembered r (toFlush b) = r
-remembered r (toStart b) = r
-remembered r take = r
-remembered r flush = r
-remembered r (start image) = record { image = image; bytes = [] }
+remembered r tookFrame = r
+remembered r flushed = r
+remembered r (started image) = record { image = image; bytes = [] }
 remembered r (calcCRC mode lsb msb) = r
 
 unfoldable pub memoryFrom : Memory → List Entry → Memory
 memoryFrom r [] = r
 memoryFrom r (e ∷ es) = memoryFrom (remembered r e) es
-
--- The key bytes among entries.
-abbrev pub keyBytes : Entry → List ℕ
-keyBytes (takenIn b) = []
-keyBytes (turnedAway b) = []
-keyBytes (toHost b) = []
-keyBytes (toAddress b) = []
-keyBytes (toCount b) = []
-keyBytes (toKey b) = b ∷ []
-keyBytes (toChecksum b) = []
-keyBytes (toMemory a b) = []
-keyBytes (toFrame b) = []
-keyBytes (toFlush b) = []
-keyBytes (toStart b) = []
-keyBytes take = []
-keyBytes flush = []
-keyBytes (start image) = []
-keyBytes (calcCRC mode lsb msb) = []

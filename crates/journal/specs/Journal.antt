@@ -2,15 +2,15 @@
 -- entries and a held list of its own, and keeps the address of the latest WriteE2 and the number of its memory bytes.
 -- Assumes nothing.
 use Prim.Native.Nat.{ℕ, zero, suc, _+_, _%_, min}
-use mathlib.Core.Bool.{Bool, true, false, cond}
+use mathlib.Core.Bool.{Bool, true, false, cond, _&&_}
 use mathlib.Core.List.{List, [], _∷_, _++_, map}
 use lib.Dec.{ltb, leb, eqb}
 use lib.ListN.{length, getD, replicate}
 use Rattle.bits.specs.Bits.{bitSet}
-use Rattle.machine.specs.State.{Machine, Command, Writing, Idle, WriteE2, ReadE2, LoadConfig, LoadKeyE2, LoadKey, CalcCRC, Transmit, Receive, TransceiveSending, TransceiveReceiving, addressing, ready, programming, withCommand}
+use Rattle.machine.specs.State.{Machine, Command, Writing, Idle, WriteE2, ReadE2, LoadConfig, LoadKeyE2, LoadKey, CalcCRC, Transmit, Receive, TransceiveSending, TransceiveReceiving, addressing, ready, programming, withinWriteE2, whileProgramming}
 use Rattle.machine.specs.Fifo.{registerAt}
 use Rattle.machine.specs.Memory.{addressOf, roomInBlock}
-use Rattle.machine.specs.Commands.{programs, commandWritten, readBytes, stepped}
+use Rattle.machine.specs.Commands.{codeOf, programs, commandWritten, readBytes, stepped}
 use Rattle.machine.specs.Frames.{passed}
 use Rattle.machine.specs.Registers.{mapped, registerWritten}
 use Rattle.machine.specs.Refusals.{Call, start, hostRead, hostWrite, advance, takeFrame, deliver, refusal}
@@ -69,10 +69,10 @@ abbrev pub counted : Journal → Journal
 counted j = record { entries = j .entries; held = j .held; base = j .base; count = j .count + 1 }
 
 unfoldable pub leaveAs : Use → Journal → Journal
-leaveAs address j = leave e.toAddress j
-leaveAs number j = leave e.toCount j
-leaveAs key j = leave e.toKey j
-leaveAs checksum j = leave e.toChecksum j
+leaveAs address j = leave (e.left e.address) j
+leaveAs number j = leave (e.left e.count) j
+leaveAs key j = leave (e.left e.key) j
+leaveAs checksum j = leave (e.left e.checksum) j
 leaveAs memory j = counted (leave (e.toMemory (j .base + j .count)) j)
 
 unfoldable pub leaveAllAs : List Use → Journal → Journal
@@ -108,34 +108,17 @@ based a j = record { entries = j .entries; held = j .held; base = a; count = 0 }
 abbrev pub addressHeld : Journal → ℕ
 addressHeld j = addressOf (getD (j .held) 0 0) (getD (j .held) 1 0)
 
+abbrev pub basedWithin : Writing → Journal → Journal → Journal
+basedWithin addressing before j = cond (leb 2 (length (before .held))) (based (addressHeld before) j) j
+basedWithin (ready a) before j = j
+basedWithin (programming a bs left) before j = j
+
 abbrev pub basedBy : Command → Journal → Journal → Journal
-basedBy Idle before j = j
-basedBy (WriteE2 addressing) before j = cond (leb 2 (length (before .held))) (based (addressHeld before) j) j
-basedBy (WriteE2 (ready a)) before j = j
-basedBy (WriteE2 (programming a bs left)) before j = j
-basedBy ReadE2 before j = j
-basedBy LoadConfig before j = j
-basedBy LoadKeyE2 before j = j
-basedBy LoadKey before j = j
-basedBy CalcCRC before j = j
-basedBy Transmit before j = j
-basedBy Receive before j = j
-basedBy TransceiveSending before j = j
-basedBy TransceiveReceiving before j = j
+basedBy c before j = withinWriteE2 (λ w. basedWithin w before j) j c
 
 -- "ReadE2's bytes" are offered.
 abbrev pub offersOf : Command → List ℕ → Journal → List ℕ
-offersOf Idle eeprom j = []
-offersOf (WriteE2 w) eeprom j = []
-offersOf ReadE2 eeprom j = cond (leb 3 (length (j .held))) (readBytes eeprom (addressHeld j) (getD (j .held) 2 0)) []
-offersOf LoadConfig eeprom j = []
-offersOf LoadKeyE2 eeprom j = []
-offersOf LoadKey eeprom j = []
-offersOf CalcCRC eeprom j = []
-offersOf Transmit eeprom j = []
-offersOf Receive eeprom j = []
-offersOf TransceiveSending eeprom j = []
-offersOf TransceiveReceiving eeprom j = []
+offersOf c eeprom j = cond (eqb (codeOf c) 0x03 && leb 3 (length (j .held))) (readBytes eeprom (addressHeld j) (getD (j .held) 2 0)) []
 
 -- One step of the active command: bytes leave to it, and it may offer bytes.
 unfoldable pub enterStep : Machine → Journal → Journal
@@ -149,17 +132,7 @@ enterSettled m j = enterStep (stepped m) (enterStep m j)
 
 -- A write to Command that is not ignored may begin a CalcCRC, which reads its mode and presets then.
 abbrev pub begun : Command → Machine → Journal → Journal
-begun CalcCRC m j = entered (e.calcCRC (registerAt m 0x22) (registerAt m 0x23) (registerAt m 0x24)) j
-begun Idle m j = j
-begun (WriteE2 w) m j = j
-begun ReadE2 m j = j
-begun LoadConfig m j = j
-begun LoadKeyE2 m j = j
-begun LoadKey m j = j
-begun Transmit m j = j
-begun Receive m j = j
-begun TransceiveSending m j = j
-begun TransceiveReceiving m j = j
+begun c m j = cond (eqb (codeOf c) 0x12) (entered (e.calcCRC (registerAt m 0x22) (registerAt m 0x23) (registerAt m 0x24)) j) j
 
 abbrev pub enterCommand : ℕ → Machine → Journal → Journal
 enterCommand v m j = cond (programs (m .command)) j (begun (commandWritten v m .command) m j)
@@ -170,7 +143,7 @@ enterRegister r v m j =
     cond (eqb (r % 8) 0) j
     (cond (eqb r 0x01) (enterCommand v m j)
     (cond (eqb r 0x02) (offer v j)
-    (cond (eqb r 0x09) (cond (bitSet v 0) (leaveAll e.toFlush e.flush j) j)
+    (cond (eqb r 0x09) (cond (bitSet v 0) (leaveAll (e.left e.flush) e.flushed j) j)
     j)))
 
 unfoldable pub enterWritten : ℕ → ℕ → Machine → Journal → Journal
@@ -181,19 +154,7 @@ abbrev pub enterEnd : ℕ → List ℕ → Machine → Journal → Journal
 enterEnd a bs m j = cond (eqb (length (j .held)) 0) j (enterSettled (batchStored a bs m) j)
 
 abbrev pub enterClockOf : Command → Machine → Journal → Journal
-enterClockOf (WriteE2 (programming a bs left)) m j = cond (leb left 1) (enterEnd a bs m j) j
-enterClockOf (WriteE2 addressing) m j = j
-enterClockOf (WriteE2 (ready a)) m j = j
-enterClockOf Idle m j = j
-enterClockOf ReadE2 m j = j
-enterClockOf LoadConfig m j = j
-enterClockOf LoadKeyE2 m j = j
-enterClockOf LoadKey m j = j
-enterClockOf CalcCRC m j = j
-enterClockOf Transmit m j = j
-enterClockOf Receive m j = j
-enterClockOf TransceiveSending m j = j
-enterClockOf TransceiveReceiving m j = j
+enterClockOf c m j = whileProgramming (λ a bs left. cond (leb left 1) (enterEnd a bs m j) j) j c
 
 unfoldable pub enterClocks : ℕ → Machine → Journal → Journal
 enterClocks zero m j = j
@@ -201,11 +162,11 @@ enterClocks (suc n) m j = enterClocks n (clock m) (enterClockOf (m .command) (ti
 
 -- A call that is not refused.
 abbrev pub enterAccepted : Call → Machine → Journal → Journal
-enterAccepted (start image) m j = leaveAll e.toStart (e.start image) j
-enterAccepted (hostRead a) m j = cond (eqb (mapped (m .page) a) 0x02) (leave e.toHost j) j
+enterAccepted (start image) m j = leaveAll (e.left e.start) (e.started image) j
+enterAccepted (hostRead a) m j = cond (eqb (mapped (m .page) a) 0x02) (leave (e.left e.host) j) j
 enterAccepted (hostWrite a v) m j = enterWritten (mapped (m .page) a) v m j
 enterAccepted (advance n) m j = enterClocks n m j
-enterAccepted (takeFrame buffer) m j = leaveAll e.toFrame e.take j
+enterAccepted (takeFrame buffer) m j = leaveAll (e.left e.frame) e.tookFrame j
 enterAccepted (deliver bytes parities lastBits) m j = offerAll (passed m bytes lastBits) j
 
 -- Any call: "Nothing else moves a byte, nor does a refused call."

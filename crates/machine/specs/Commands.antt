@@ -7,35 +7,35 @@ use lib.Dec.{ltb, leb, eqb}
 use lib.ListN.{length, take, drop, getD}
 use Rattle.crc.specs.Checksum.{presetOf, absorbedAll}
 use Rattle.key.specs.Key.{formatHolds, judgedKey, emptyKey}
-use Rattle.machine.specs.State.{Machine, Command, Writing, Idle, WriteE2, ReadE2, LoadConfig, LoadKeyE2, LoadKey, CalcCRC, Transmit, Receive, TransceiveSending, TransceiveReceiving, addressing, ready, programming, withCommand, withHeld, withErrors, withRequests, withChecksum, withKey, withRegisters}
+use Rattle.machine.specs.State.{Machine, Command, Writing, Idle, WriteE2, ReadE2, LoadConfig, LoadKeyE2, LoadKey, CalcCRC, Transmit, Receive, TransceiveSending, TransceiveReceiving, addressing, ready, programming, whileProgramming, withCommand, withHeld, withErrors, withRequests, withChecksum, withKey, withRegisters, fiveFlags, sixSources}
 use Rattle.machine.specs.Fifo.{registerAt, offeredAll}
 use Rattle.machine.specs.Memory.{addressOf, bytesFrom, roomInBlock, programmingClocks, overRegisters}
 
 -- Flags and requests that commands set.
 abbrev pub raisedIdle : Machine → Machine
 raisedIdle m =
-    withRequests (record { timer = m .status .requests .timer; tx = m .status .requests .tx; rx = m .status .requests .rx; idle = true; hiAlert = m .status .requests .hiAlert; loAlert = m .status .requests .loAlert }) m
+    let r = m .status .requests in withRequests (sixSources (r .timer) (r .tx) (r .rx) true (r .hiAlert) (r .loAlert)) m
 
 abbrev pub raisedTx : Machine → Machine
 raisedTx m =
-    withRequests (record { timer = m .status .requests .timer; tx = true; rx = m .status .requests .rx; idle = m .status .requests .idle; hiAlert = m .status .requests .hiAlert; loAlert = m .status .requests .loAlert }) m
+    let r = m .status .requests in withRequests (sixSources (r .timer) true (r .rx) (r .idle) (r .hiAlert) (r .loAlert)) m
 
 abbrev pub raisedRx : Machine → Machine
 raisedRx m =
-    withRequests (record { timer = m .status .requests .timer; tx = m .status .requests .tx; rx = true; idle = m .status .requests .idle; hiAlert = m .status .requests .hiAlert; loAlert = m .status .requests .loAlert }) m
+    let r = m .status .requests in withRequests (sixSources (r .timer) (r .tx) true (r .idle) (r .hiAlert) (r .loAlert)) m
 
 abbrev pub withAccessErr : Machine → Machine
 withAccessErr m =
-    withErrors (record { keyErr = m .status .errors .keyErr; accessErr = true; fifoOvfl = m .status .errors .fifoOvfl; crcErr = m .status .errors .crcErr; parityErr = m .status .errors .parityErr }) m
+    let e = m .status .errors in withErrors (fiveFlags (e .keyErr) true (e .fifoOvfl) (e .crcErr) (e .parityErr)) m
 
 abbrev pub withKeyErr : Bool → Machine → Machine
 withKeyErr flag m =
-    withErrors (record { keyErr = flag; accessErr = m .status .errors .accessErr; fifoOvfl = m .status .errors .fifoOvfl; crcErr = m .status .errors .crcErr; parityErr = m .status .errors .parityErr }) m
+    let e = m .status .errors in withErrors (fiveFlags flag (e .accessErr) (e .fifoOvfl) (e .crcErr) (e .parityErr)) m
 
 -- "clears AccessErr, CRCErr and ParityErr".
 abbrev pub clearedErrors : Machine → Machine
 clearedErrors m =
-    withErrors (record { keyErr = m .status .errors .keyErr; accessErr = false; fifoOvfl = m .status .errors .fifoOvfl; crcErr = false; parityErr = false }) m
+    let e = m .status .errors in withErrors (fiveFlags (e .keyErr) false (e .fifoOvfl) false false) m
 
 -- "A command that ends by itself, or an unknown code, goes to Idle and sets IdleIRq".
 abbrev pub ended : Machine → Machine
@@ -56,23 +56,8 @@ codeOf TransceiveSending = 0x1E
 codeOf TransceiveReceiving = 0x1E
 
 -- A programming runs.
-abbrev pub writingPrograms : Writing → Bool
-writingPrograms addressing = false
-writingPrograms (ready a) = false
-writingPrograms (programming a bs left) = true
-
 abbrev pub programs : Command → Bool
-programs Idle = false
-programs (WriteE2 w) = writingPrograms w
-programs ReadE2 = false
-programs LoadConfig = false
-programs LoadKeyE2 = false
-programs LoadKey = false
-programs CalcCRC = false
-programs Transmit = false
-programs Receive = false
-programs TransceiveSending = false
-programs TransceiveReceiving = false
+programs c = whileProgramming (λ a bs left. true) false c
 
 -- CalcCRC "reads presets 23h, 24h and mode at its start".
 abbrev pub checksumStarted : Machine → Machine

@@ -6,7 +6,7 @@ use mathlib.Core.List.{List, [], _∷_, _++_}
 use lib.Dec.{eqb, leb}
 use lib.ListN.{length, take, drop, replicate}
 use Rattle.key.specs.Key.{emptyKey}
-use Rattle.machine.specs.State.{Machine, Command, Writing, Interrupts, Idle, WriteE2, ReadE2, LoadConfig, LoadKeyE2, LoadKey, CalcCRC, Transmit, Receive, TransceiveSending, TransceiveReceiving, addressing, ready, programming, withCommand, withHeld, withEeprom}
+use Rattle.machine.specs.State.{Machine, Command, Interrupts, Idle, WriteE2, ready, programming, whileProgramming, withCommand, withHeld, withEeprom}
 use Rattle.machine.specs.Refusals.{Call, start, hostRead, hostWrite, advance, takeFrame, deliver, refusal}
 use Rattle.machine.specs.Registers.{mapped, registerRead, registerWritten}
 use Rattle.machine.specs.Fifo.{restOf, alerted}
@@ -61,24 +61,13 @@ batchStored a bs m = withCommand (WriteE2 (ready ((a + length bs) % 0x200))) (wi
 abbrev pub programmed : ℕ → List ℕ → Machine → Machine
 programmed a bs m = cond (eqb (length (m .held)) 0) (raisedTx (batchStored a bs m)) (settled (batchStored a bs m))
 
--- One clock of a programming.
-abbrev pub writingClocked : Writing → Machine → Machine
-writingClocked addressing m = m
-writingClocked (ready a) m = m
-writingClocked (programming a bs left) m = cond (leb left 1) (programmed a bs m) (withCommand (WriteE2 (programming a bs (left - 1))) m)
+-- One clock of a programming: it has one clock less to go, or ends.
+abbrev pub programmingClocked : ℕ → List ℕ → ℕ → Machine → Machine
+programmingClocked a bs left m = cond (leb left 1) (programmed a bs m) (withCommand (WriteE2 (programming a bs (left - 1))) m)
 
+-- One clock of the active command, which does nothing but program by clocks.
 abbrev pub commandClocked : Command → Machine → Machine
-commandClocked Idle m = m
-commandClocked (WriteE2 w) m = writingClocked w m
-commandClocked ReadE2 m = m
-commandClocked LoadConfig m = m
-commandClocked LoadKeyE2 m = m
-commandClocked LoadKey m = m
-commandClocked CalcCRC m = m
-commandClocked Transmit m = m
-commandClocked Receive m = m
-commandClocked TransceiveSending m = m
-commandClocked TransceiveReceiving m = m
+commandClocked c m = whileProgramming programmingClocked (λ n. n) c m
 
 -- One clock, for the timer and the programming.
 unfoldable pub clock : Machine → Machine

@@ -5,7 +5,7 @@ use mathlib.Core.Bool.{Bool, true, false, cond, not, _&&_, _||_}
 use mathlib.Core.List.{List, [], _∷_, _++_}
 use lib.Dec.{ltb, leb}
 use lib.ListN.{length, getD}
-use Rattle.machine.specs.State.{Machine, Interrupts, Errors, withHeld, withErrors, withRequests}
+use Rattle.machine.specs.State.{Machine, Interrupts, Errors, withHeld, withErrors, withRequests, fiveFlags}
 
 -- A register of 10h-2Fh as it is stored.
 abbrev pub registerAt : Machine → ℕ → ℕ
@@ -13,7 +13,7 @@ registerAt m address = getD (m .registers) (address - 0x10) 0
 
 abbrev pub withFifoOvfl : Bool → Machine → Machine
 withFifoOvfl flag m =
-    withErrors (record { keyErr = m .status .errors .keyErr; accessErr = m .status .errors .accessErr; fifoOvfl = flag; crcErr = m .status .errors .crcErr; parityErr = m .status .errors .parityErr }) m
+    let e = m .status .errors in withErrors (fiveFlags (e .keyErr) (e .accessErr) flag (e .crcErr) (e .parityErr)) m
 
 -- "A byte offered at 64 held is refused and sets FIFOOvfl".
 unfoldable pub offered : ℕ → Machine → Machine

@@ -8,7 +8,7 @@ use lib.Dec.{ltb, eqb}
 use lib.ListN.{length, take, drop}
 use Rattle.bits.specs.Bits.{bit, bitSet}
 use Rattle.crc.specs.Checksum.{CRC8, checksum}
-use Rattle.machine.specs.State.{Machine, Command, Idle, WriteE2, ReadE2, LoadConfig, LoadKeyE2, LoadKey, CalcCRC, Transmit, Receive, TransceiveSending, TransceiveReceiving, withCommand, withHeld, withErrors, withRxLastBits}
+use Rattle.machine.specs.State.{Machine, Command, Idle, WriteE2, ReadE2, LoadConfig, LoadKeyE2, LoadKey, CalcCRC, Transmit, Receive, TransceiveSending, TransceiveReceiving, withCommand, withHeld, withErrors, withRxLastBits, fiveFlags}
 use Rattle.machine.specs.Fifo.{registerAt, offeredAll}
 use Rattle.machine.specs.Timer.{TStartTxBegin, TStartTxEnd, TStopRx, timerStarted, timerStopped}
 use Rattle.machine.specs.Commands.{raisedTx, raisedRx, ended}
@@ -121,7 +121,7 @@ crcFails m bytes lastBits =
 
 abbrev pub withFrameErrors : Bool → Bool → Machine → Machine
 withFrameErrors crc parity m =
-    withErrors (record { keyErr = m .status .errors .keyErr; accessErr = m .status .errors .accessErr; fifoOvfl = m .status .errors .fifoOvfl; crcErr = m .status .errors .crcErr || crc; parityErr = m .status .errors .parityErr || parity }) m
+    let e = m .status .errors in withErrors (fiveFlags (e .keyErr) (e .accessErr) (e .fifoOvfl) (e .crcErr || crc) (e .parityErr || parity)) m
 
 abbrev pub rxStopped : Machine → Machine
 rxStopped m = cond (TStopRx m) (timerStopped m) m

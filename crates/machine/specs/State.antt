@@ -61,6 +61,30 @@ pub data Command : Type 0 where
   TransceiveSending : Command
   TransceiveReceiving : Command
 
+-- antt has no clause for all other constructors. So a function that singles out WriteE2, or a programming, is said by one of these: what it is
+-- there, and what it is under every other command.
+abbrev pub withinWriteE2 : {X : Type 0} → (Writing → X) → X → Command → X
+withinWriteE2 there other Idle = other
+withinWriteE2 there other (WriteE2 w) = there w
+withinWriteE2 there other ReadE2 = other
+withinWriteE2 there other LoadConfig = other
+withinWriteE2 there other LoadKeyE2 = other
+withinWriteE2 there other LoadKey = other
+withinWriteE2 there other CalcCRC = other
+withinWriteE2 there other Transmit = other
+withinWriteE2 there other Receive = other
+withinWriteE2 there other TransceiveSending = other
+withinWriteE2 there other TransceiveReceiving = other
+
+-- A programming has its address, its bytes and the clocks left.
+abbrev pub ofProgramming : {X : Type 0} → (ℕ → List ℕ → ℕ → X) → X → Writing → X
+ofProgramming there other addressing = other
+ofProgramming there other (ready a) = other
+ofProgramming there other (programming a bs left) = there a bs left
+
+abbrev pub whileProgramming : {X : Type 0} → (ℕ → List ℕ → ℕ → X) → X → Command → X
+whileProgramming there other c = withinWriteE2 (ofProgramming there other) other c
+
 -- What the status registers show beyond what is derived.
 pub record Status : Type 0 where
   pub enables : Interrupts
@@ -87,49 +111,77 @@ pub record Machine : Type 0 where
   -- 512 bytes
   pub eeprom : List ℕ
 
+-- Records from their parts, in the order of their fields.
+abbrev pub machineOf : ℕ → Command → List ℕ → Status → Timer → Checksum → Key → ℕ → List ℕ → List ℕ → Machine
+machineOf page command held status timer checksum key bitFraming registers eeprom =
+    record {
+      page = page;
+      command = command;
+      held = held;
+      status = status;
+      timer = timer;
+      checksum = checksum;
+      key = key;
+      bitFraming = bitFraming;
+      registers = registers;
+      eeprom = eeprom;
+    }
+
+abbrev pub statusOf : Interrupts → Interrupts → Errors → ℕ → ℕ → Status
+statusOf enables requests errors control rxLastBits =
+    record { enables = enables; requests = requests; errors = errors; control = control; rxLastBits = rxLastBits }
+
+abbrev pub sixSources : Bool → Bool → Bool → Bool → Bool → Bool → Interrupts
+sixSources timer tx rx idle hiAlert loAlert =
+    record { timer = timer; tx = tx; rx = rx; idle = idle; hiAlert = hiAlert; loAlert = loAlert }
+
+abbrev pub fiveFlags : Bool → Bool → Bool → Bool → Bool → Errors
+fiveFlags keyErr accessErr fifoOvfl crcErr parityErr =
+    record { keyErr = keyErr; accessErr = accessErr; fifoOvfl = fifoOvfl; crcErr = crcErr; parityErr = parityErr }
+
 -- Setters of the machine's parts.
 abbrev pub withPage : ℕ → Machine → Machine
-withPage x m = record { page = x; command = m .command; held = m .held; status = m .status; timer = m .timer; checksum = m .checksum; key = m .key; bitFraming = m .bitFraming; registers = m .registers; eeprom = m .eeprom }
+withPage x m = machineOf x (m .command) (m .held) (m .status) (m .timer) (m .checksum) (m .key) (m .bitFraming) (m .registers) (m .eeprom)
 
 abbrev pub withCommand : Command → Machine → Machine
-withCommand x m = record { page = m .page; command = x; held = m .held; status = m .status; timer = m .timer; checksum = m .checksum; key = m .key; bitFraming = m .bitFraming; registers = m .registers; eeprom = m .eeprom }
+withCommand x m = machineOf (m .page) x (m .held) (m .status) (m .timer) (m .checksum) (m .key) (m .bitFraming) (m .registers) (m .eeprom)
 
 abbrev pub withHeld : List ℕ → Machine → Machine
-withHeld x m = record { page = m .page; command = m .command; held = x; status = m .status; timer = m .timer; checksum = m .checksum; key = m .key; bitFraming = m .bitFraming; registers = m .registers; eeprom = m .eeprom }
+withHeld x m = machineOf (m .page) (m .command) x (m .status) (m .timer) (m .checksum) (m .key) (m .bitFraming) (m .registers) (m .eeprom)
 
 abbrev pub withStatus : Status → Machine → Machine
-withStatus x m = record { page = m .page; command = m .command; held = m .held; status = x; timer = m .timer; checksum = m .checksum; key = m .key; bitFraming = m .bitFraming; registers = m .registers; eeprom = m .eeprom }
+withStatus x m = machineOf (m .page) (m .command) (m .held) x (m .timer) (m .checksum) (m .key) (m .bitFraming) (m .registers) (m .eeprom)
 
 abbrev pub withTimer : Timer → Machine → Machine
-withTimer x m = record { page = m .page; command = m .command; held = m .held; status = m .status; timer = x; checksum = m .checksum; key = m .key; bitFraming = m .bitFraming; registers = m .registers; eeprom = m .eeprom }
+withTimer x m = machineOf (m .page) (m .command) (m .held) (m .status) x (m .checksum) (m .key) (m .bitFraming) (m .registers) (m .eeprom)
 
 abbrev pub withChecksum : Checksum → Machine → Machine
-withChecksum x m = record { page = m .page; command = m .command; held = m .held; status = m .status; timer = m .timer; checksum = x; key = m .key; bitFraming = m .bitFraming; registers = m .registers; eeprom = m .eeprom }
+withChecksum x m = machineOf (m .page) (m .command) (m .held) (m .status) (m .timer) x (m .key) (m .bitFraming) (m .registers) (m .eeprom)
 
 abbrev pub withKey : Key → Machine → Machine
-withKey x m = record { page = m .page; command = m .command; held = m .held; status = m .status; timer = m .timer; checksum = m .checksum; key = x; bitFraming = m .bitFraming; registers = m .registers; eeprom = m .eeprom }
+withKey x m = machineOf (m .page) (m .command) (m .held) (m .status) (m .timer) (m .checksum) x (m .bitFraming) (m .registers) (m .eeprom)
 
 abbrev pub withBitFraming : ℕ → Machine → Machine
-withBitFraming x m = record { page = m .page; command = m .command; held = m .held; status = m .status; timer = m .timer; checksum = m .checksum; key = m .key; bitFraming = x; registers = m .registers; eeprom = m .eeprom }
+withBitFraming x m = machineOf (m .page) (m .command) (m .held) (m .status) (m .timer) (m .checksum) (m .key) x (m .registers) (m .eeprom)
 
 abbrev pub withRegisters : List ℕ → Machine → Machine
-withRegisters x m = record { page = m .page; command = m .command; held = m .held; status = m .status; timer = m .timer; checksum = m .checksum; key = m .key; bitFraming = m .bitFraming; registers = x; eeprom = m .eeprom }
+withRegisters x m = machineOf (m .page) (m .command) (m .held) (m .status) (m .timer) (m .checksum) (m .key) (m .bitFraming) x (m .eeprom)
 
 abbrev pub withEeprom : List ℕ → Machine → Machine
-withEeprom x m = record { page = m .page; command = m .command; held = m .held; status = m .status; timer = m .timer; checksum = m .checksum; key = m .key; bitFraming = m .bitFraming; registers = m .registers; eeprom = x }
+withEeprom x m = machineOf (m .page) (m .command) (m .held) (m .status) (m .timer) (m .checksum) (m .key) (m .bitFraming) (m .registers) x
 
 -- Setters of the status.
 abbrev pub withEnables : Interrupts → Machine → Machine
-withEnables x m = withStatus (record { enables = x; requests = m .status .requests; errors = m .status .errors; control = m .status .control; rxLastBits = m .status .rxLastBits }) m
+withEnables x m = withStatus (statusOf x (m .status .requests) (m .status .errors) (m .status .control) (m .status .rxLastBits)) m
 
 abbrev pub withRequests : Interrupts → Machine → Machine
-withRequests x m = withStatus (record { enables = m .status .enables; requests = x; errors = m .status .errors; control = m .status .control; rxLastBits = m .status .rxLastBits }) m
+withRequests x m = withStatus (statusOf (m .status .enables) x (m .status .errors) (m .status .control) (m .status .rxLastBits)) m
 
 abbrev pub withErrors : Errors → Machine → Machine
-withErrors x m = withStatus (record { enables = m .status .enables; requests = m .status .requests; errors = x; control = m .status .control; rxLastBits = m .status .rxLastBits }) m
+withErrors x m = withStatus (statusOf (m .status .enables) (m .status .requests) x (m .status .control) (m .status .rxLastBits)) m
 
 abbrev pub withControl : ℕ → Machine → Machine
-withControl x m = withStatus (record { enables = m .status .enables; requests = m .status .requests; errors = m .status .errors; control = x; rxLastBits = m .status .rxLastBits }) m
+withControl x m = withStatus (statusOf (m .status .enables) (m .status .requests) (m .status .errors) x (m .status .rxLastBits)) m
 
 abbrev pub withRxLastBits : ℕ → Machine → Machine
-withRxLastBits x m = withStatus (record { enables = m .status .enables; requests = m .status .requests; errors = m .status .errors; control = m .status .control; rxLastBits = x }) m
+withRxLastBits x m = withStatus (statusOf (m .status .enables) (m .status .requests) (m .status .errors) (m .status .control) x) m

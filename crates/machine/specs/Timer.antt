@@ -4,7 +4,7 @@ use Prim.Native.Nat.{ℕ, _+_, _-_, _%_, _^_}
 use mathlib.Core.Bool.{Bool, true, false, cond, _||_}
 use lib.Dec.{ltb, eqb}
 use Rattle.bits.specs.Bits.{bitSet}
-use Rattle.machine.specs.State.{Machine, Timer, Interrupts, withTimer, withRequests}
+use Rattle.machine.specs.State.{Machine, Timer, Interrupts, withTimer, withRequests, sixSources}
 use Rattle.machine.specs.Fifo.{registerAt}
 
 -- TimerClock (2Ah) bits 4-0 and 5, TimerReload (2Ch), and the bits of TimerControl (2Bh).
@@ -46,7 +46,7 @@ timerStopped m = withTimer (stoppedAt (m .timer .value)) m
 
 abbrev pub raisedTimer : Machine → Machine
 raisedTimer m =
-    withRequests (record { timer = true; tx = m .status .requests .tx; rx = m .status .requests .rx; idle = m .status .requests .idle; hiAlert = m .status .requests .hiAlert; loAlert = m .status .requests .loAlert }) m
+    let r = m .status .requests in withRequests (sixSources true (r .tx) (r .rx) (r .idle) (r .hiAlert) (r .loAlert)) m
 
 -- One timer step: "a value above 1 falls by one; at 1 TimerIRq is set and the value becomes 0 and stops, or, with TAutoRestart, becomes
 -- TimerReload (stopping if that is 0)".

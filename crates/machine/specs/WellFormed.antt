@@ -8,7 +8,7 @@ use Rattle.bits.specs.Bits.{Bytes}
 use lib.Dec.{ltb, leb, eqb}
 use lib.ListN.{length}
 use Rattle.crc.specs.Checksum.{CRC8}
-use Rattle.machine.specs.State.{Machine, Command, Writing, Timer, Checksum, Idle, WriteE2, ReadE2, LoadConfig, LoadKeyE2, LoadKey, CalcCRC, Transmit, Receive, TransceiveSending, TransceiveReceiving, addressing, ready, programming}
+use Rattle.machine.specs.State.{Machine, Command, Writing, Timer, Checksum, Idle, WriteE2, ReadE2, LoadConfig, LoadKeyE2, LoadKey, CalcCRC, Transmit, Receive, TransceiveSending, TransceiveReceiving, addressing, ready, programming, withinWriteE2, whileProgramming}
 use Rattle.machine.specs.Memory.{programmingClocks}
 
 -- "held bytes are at most 64".
@@ -31,17 +31,7 @@ writingFormed (programming a bs left) =
     leb 1 left && (leb left programmingClocks && (leb 1 (length bs) && (leb (a % 16 + length bs) 16 && (leb 0x10 a && ltb a 0x200))))
 
 abbrev pub commandFormed : Command → Bool
-commandFormed Idle = true
-commandFormed (WriteE2 w) = writingFormed w
-commandFormed ReadE2 = true
-commandFormed LoadConfig = true
-commandFormed LoadKeyE2 = true
-commandFormed LoadKey = true
-commandFormed CalcCRC = true
-commandFormed Transmit = true
-commandFormed Receive = true
-commandFormed TransceiveSending = true
-commandFormed TransceiveReceiving = true
+commandFormed c = withinWriteE2 writingFormed true c
 
 -- "no command could take waiting bytes, or end over them, at once": the most bytes that may wait while each is active.
 abbrev pub writingWaits : Writing → ℕ
@@ -84,19 +74,7 @@ wellFormed m =
 
 -- What every chip's machine is by the types of its fields: bytes are bytes, and memories have their sizes. It is no part of refusal 7.
 abbrev pub latchedBytes : Command → List ℕ
-latchedBytes Idle = []
-latchedBytes (WriteE2 addressing) = []
-latchedBytes (WriteE2 (ready a)) = []
-latchedBytes (WriteE2 (programming a bs left)) = bs
-latchedBytes ReadE2 = []
-latchedBytes LoadConfig = []
-latchedBytes LoadKeyE2 = []
-latchedBytes LoadKey = []
-latchedBytes CalcCRC = []
-latchedBytes Transmit = []
-latchedBytes Receive = []
-latchedBytes TransceiveSending = []
-latchedBytes TransceiveReceiving = []
+latchedBytes c = whileProgramming (λ a bs left. bs) [] c
 
 pub record Sized (m : Machine) : Type 0 where
   pub held-bytes : Bytes (m .held)

@@ -11,7 +11,8 @@ use Rattle.machine.specs.State.{Machine, Command, Writing, Idle, WriteE2
 use Rattle.machine.specs.Timer.{timerClock}
 use Rattle.machine.specs.Commands.{enough, writeStepped, steppedAs, stepped, settled}
 use Rattle.machine.specs.Memory.{roomInBlock}
-use Rattle.machine.specs.Events.{writingClocked, commandClocked, clock, clocks}
+use Rattle.machine.proofs.Cases.{while-programming}
+use Rattle.machine.specs.Events.{programmingClocked, commandClocked, clock, clocks}
 
 -- The machine with these requests of HiAlert and LoAlert.
 abbrev pub requesting : Bool → Bool → Machine → Machine
@@ -120,28 +121,15 @@ module _ (hi lo : Bool) where
   unfolding settled stepped
   settled-calm m is = followed stepped (steppedAs-calm is m) (steppedAs-calm (steppedAs-writes is m is) (stepped m))
 
-  -- A programming counts down; at its end its bytes are stored, and waiting ones are latched.
-  writingClocked-calm : (w : Writing) (m : Machine) → Calm m (writingClocked w m) (writingClocked w (raising hi lo m))
-  writingClocked-calm addressing m = still m
-  writingClocked-calm (ready a) m = still m
-  writingClocked-calm (programming a bs left) m =
+  -- A programming counts down; at its end its bytes are stored, and waiting ones are latched. No other command has anything to do with a clock.
+  commandClocked-calm : (c : Command) (m : Machine) → Calm m (commandClocked c m) (commandClocked c (raising hi lo m))
+  commandClocked-calm c m =
+      while-programming (λ (f : Machine → Machine). Calm m (f m) (f (raising hi lo m))) programmingClocked (λ n. n) c
+      (λ a bs left is.
       picks (leb left 1)
       (picks (eqb (length (m .held)) 0) (dropping 0 refl refl refl) (followed settled (dropping 0 refl refl refl) (settled-calm _ (writing _))))
-      (dropping 0 refl refl refl)
-
-  -- No other command has anything to do with a clock.
-  commandClocked-calm : (c : Command) (m : Machine) → Calm m (commandClocked c m) (commandClocked c (raising hi lo m))
-  commandClocked-calm Idle m = still m
-  commandClocked-calm (WriteE2 w) m = writingClocked-calm w m
-  commandClocked-calm ReadE2 m = still m
-  commandClocked-calm LoadConfig m = still m
-  commandClocked-calm LoadKeyE2 m = still m
-  commandClocked-calm LoadKey m = still m
-  commandClocked-calm CalcCRC m = still m
-  commandClocked-calm Transmit m = still m
-  commandClocked-calm Receive m = still m
-  commandClocked-calm TransceiveSending m = still m
-  commandClocked-calm TransceiveReceiving m = still m
+      (dropping 0 refl refl refl))
+      (still m)
 
   -- A clock, and so any number of them.
   clock-calm : (m : Machine) → Calm m (clock m) (clock (raising hi lo m))

@@ -17,7 +17,8 @@ use Rattle.machine.specs.Memory.{programmingClocks, bytesFrom, storedFro
 use Rattle.machine.specs.Registers.{mapped, registerWritten}
 use Rattle.machine.specs.WellFormed.{commandFormed}
 use Rattle.machine.specs.Commands.{raisedTx, settled}
-use Rattle.machine.specs.Events.{started, written, afterRead, programmed, commandClocked, clock, clocks, advanced, taken, delivered}
+use Rattle.machine.specs.Events.{started, written, afterRead, programmed, programmingClocked, commandClocked, clock, clocks, advanced, taken, delivered}
+use Rattle.machine.proofs.Cases.{while-programming}
 use Rattle.machine.proofs.WellFormed.Parts.{Almost, Good, by-cond, either, both, each, new-command, new-eeprom}
 use Rattle.machine.proofs.WellFormed.Memory.{from-bytes, stored-bytes, stored-length, over-bytes, over-length}
 use Rattle.machine.proofs.WellFormed.Timer.{GoodAs, ticked}
@@ -80,23 +81,14 @@ left-formed a bs left above formed =
 
 -- One clock of the active command.
 clocked-good : (c : Command) (m : Machine) → GoodAs c m → Good (commandClocked c m)
-clocked-good Idle m (g, is) = g
-clocked-good (WriteE2 addressing) m (g, is) = g
-clocked-good (WriteE2 (ready a)) m (g, is) = g
-clocked-good (WriteE2 (programming a bs left)) m ((p, r), is) =
-    let formed : commandFormed (WriteE2 (programming a bs left)) ≡ true = rw is at (p .command .formed) in
-    let w : Bytes bs = rw is at (p .command .latched) in
+clocked-good c m ((p, r), is) =
+    while-programming (λ (f : Machine → Machine). Good (f m)) programmingClocked (λ n. n) c
+    (λ a bs left now.
+    let formed : commandFormed (WriteE2 (programming a bs left)) ≡ true = rw (is ∙ now) at (p .command .formed) in
+    let w : Bytes bs = rw (is ∙ now) at (p .command .latched) in
     by-cond Good (leb left 1) _ _ (λ e. programmed-good a bs m w p)
-    (λ e. (new-command p (WriteE2 (programming a bs (left - 1))) (left-formed a bs left (leb-false left 1 e) formed) w, p .held .fits))
-clocked-good ReadE2 m (g, is) = g
-clocked-good LoadConfig m (g, is) = g
-clocked-good LoadKeyE2 m (g, is) = g
-clocked-good LoadKey m (g, is) = g
-clocked-good CalcCRC m (g, is) = g
-clocked-good Transmit m (g, is) = g
-clocked-good Receive m (g, is) = g
-clocked-good TransceiveSending m (g, is) = g
-clocked-good TransceiveReceiving m (g, is) = g
+    (λ e. (new-command p (WriteE2 (programming a bs (left - 1))) (left-formed a bs left (leb-false left 1 e) formed) w, p .held .fits)))
+    (p, r)
 
 -- Any number of clocks.
 pub clocks-good : (n : ℕ) (m : Machine) → Good m → Good (clocks n m)

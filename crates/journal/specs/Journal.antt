@@ -7,7 +7,8 @@ use mathlib.Core.List.{List, [], _∷_, _++_, map}
 use lib.Dec.{ltb, leb, eqb}
 use lib.ListN.{length, getD, replicate}
 use Rattle.bits.specs.Bits.{bitSet}
-use Rattle.machine.specs.State.{Machine, Command, Writing, Idle, WriteE2, ReadE2, LoadConfig, LoadKeyE2, LoadKey, CalcCRC, Transmit, Receive, TransceiveSending, TransceiveReceiving, addressing, ready, programming, withinWriteE2, whileProgramming}
+use Rattle.machine.specs.State.{Machine, Command, Writing, withinWriteE2, whileProgramming}
+use Rattle.machine.specs.State.{Idle, WriteE2, ReadE2, LoadConfig, LoadKeyE2, LoadKey, CalcCRC, Transmit, Receive, TransceiveSending, TransceiveReceiving, addressing, ready, programming}
 use Rattle.machine.specs.Fifo.{registerAt}
 use Rattle.machine.specs.Memory.{addressOf, roomInBlock}
 use Rattle.machine.specs.Commands.{codeOf, programs, commandWritten, readBytes, stepped}

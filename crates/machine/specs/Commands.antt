@@ -7,7 +7,8 @@ use lib.Dec.{ltb, leb, eqb}
 use lib.ListN.{length, take, drop, getD}
 use Rattle.crc.specs.Checksum.{presetOf, absorbedAll}
 use Rattle.key.specs.Key.{formatHolds, judgedKey, emptyKey}
-use Rattle.machine.specs.State.{Machine, Command, Writing, Idle, WriteE2, ReadE2, LoadConfig, LoadKeyE2, LoadKey, CalcCRC, Transmit, Receive, TransceiveSending, TransceiveReceiving, addressing, ready, programming, whileProgramming, withCommand, withHeld, withErrors, withRequests, withChecksum, withKey, withRegisters, fiveFlags, sixSources}
+use Rattle.machine.specs.State.{Machine, Command, Writing, whileProgramming, withCommand, withHeld, withErrors, withRequests, withChecksum, withKey, withRegisters, fiveFlags, sixSources}
+use Rattle.machine.specs.State.{Idle, WriteE2, ReadE2, LoadConfig, LoadKeyE2, LoadKey, CalcCRC, Transmit, Receive, TransceiveSending, TransceiveReceiving, addressing, ready, programming}
 use Rattle.machine.specs.Fifo.{registerAt, offeredAll}
 use Rattle.machine.specs.Memory.{addressOf, bytesFrom, roomInBlock, programmingClocks, overRegisters}
 
@@ -135,7 +136,8 @@ keyFrom address m =
 
 -- CalcCRC "takes every byte, TxIRq when any was taken".
 abbrev pub checksumTaken : Machine → Machine
-checksumTaken m = withChecksum (record { register = absorbedAll (m .checksum .mode) (m .checksum .register) (m .held); mode = m .checksum .mode }) (withHeld [] m)
+checksumTaken m =
+    let c = m .checksum in withChecksum (record { register = absorbedAll (c .mode) (c .register) (m .held); mode = c .mode }) (withHeld [] m)
 
 -- What the active command does with waiting bytes, in one step.
 abbrev pub steppedAs : Command → Machine → Machine

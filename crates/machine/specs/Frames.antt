@@ -8,38 +8,32 @@ use lib.Dec.{ltb, eqb}
 use lib.ListN.{length, take, drop}
 use Rattle.bits.specs.Bits.{bit, bitSet}
 use Rattle.crc.specs.Checksum.{CRC8, checksum}
-use Rattle.machine.specs.State.{Machine, Command, Idle, WriteE2, ReadE2, LoadConfig, LoadKeyE2, LoadKey, CalcCRC, Transmit, Receive, TransceiveSending, TransceiveReceiving, withCommand, withHeld, withErrors, withRxLastBits, fiveFlags}
+use Rattle.machine.specs.State.{Machine, Command, withCommand, withHeld, withErrors, withRxLastBits, fiveFlags}
+use Rattle.machine.specs.State.{Idle, WriteE2, ReadE2, LoadConfig, LoadKeyE2, LoadKey, CalcCRC, Transmit, Receive, TransceiveSending, TransceiveReceiving}
 use Rattle.machine.specs.Fifo.{registerAt, offeredAll}
 use Rattle.machine.specs.Timer.{TStartTxBegin, TStartTxEnd, TStopRx, timerStarted, timerStopped}
-use Rattle.machine.specs.Commands.{raisedTx, raisedRx, ended}
+use Rattle.machine.specs.Commands.{codeOf, raisedTx, raisedRx, ended}
 
--- "sending": Transmit, and Transceive before the take.
+-- What it is of a command that is sending, "Transmit, and Transceive before the take", of one that is receiving, "Receive, and Transceive after a
+-- take", and of any other.
+abbrev pub byFrames : {X : Type 0} → X → X → X → Command → X
+byFrames sends receives other Idle = other
+byFrames sends receives other (WriteE2 w) = other
+byFrames sends receives other ReadE2 = other
+byFrames sends receives other LoadConfig = other
+byFrames sends receives other LoadKeyE2 = other
+byFrames sends receives other LoadKey = other
+byFrames sends receives other CalcCRC = other
+byFrames sends receives other Transmit = sends
+byFrames sends receives other Receive = receives
+byFrames sends receives other TransceiveSending = sends
+byFrames sends receives other TransceiveReceiving = receives
+
 abbrev pub sending : Command → Bool
-sending Idle = false
-sending (WriteE2 w) = false
-sending ReadE2 = false
-sending LoadConfig = false
-sending LoadKeyE2 = false
-sending LoadKey = false
-sending CalcCRC = false
-sending Transmit = true
-sending Receive = false
-sending TransceiveSending = true
-sending TransceiveReceiving = false
+sending c = byFrames true false false c
 
--- "receiving": Receive, and Transceive after a take.
 abbrev pub receiving : Command → Bool
-receiving Idle = false
-receiving (WriteE2 w) = false
-receiving ReadE2 = false
-receiving LoadConfig = false
-receiving LoadKeyE2 = false
-receiving LoadKey = false
-receiving CalcCRC = false
-receiving Transmit = false
-receiving Receive = true
-receiving TransceiveSending = false
-receiving TransceiveReceiving = true
+receiving c = byFrames false true false c
 
 -- A frame's checksum, by 22h-24h "as they stand at take or delivery": "low byte first; one byte for CRC8".
 abbrev pub crcWidth : Machine → ℕ
@@ -68,17 +62,7 @@ txEnded m = cond (TStartTxEnd m) (timerStarted m) m
 
 -- After the frame: "TxIRq. Then Idle, or receiving."
 abbrev pub afterSending : Command → Machine → Machine
-afterSending TransceiveSending m = withCommand TransceiveReceiving m
-afterSending Idle m = ended m
-afterSending (WriteE2 w) m = ended m
-afterSending ReadE2 m = ended m
-afterSending LoadConfig m = ended m
-afterSending LoadKeyE2 m = ended m
-afterSending LoadKey m = ended m
-afterSending CalcCRC m = ended m
-afterSending Transmit m = ended m
-afterSending Receive m = ended m
-afterSending TransceiveReceiving m = ended m
+afterSending c m = cond (sending c && eqb (codeOf c) 0x1E) (withCommand TransceiveReceiving m) (ended m)
 
 -- A take empties the FIFO.
 unfoldable pub sent : Machine → Machine

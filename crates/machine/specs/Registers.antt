@@ -7,7 +7,7 @@ use lib.Dec.{ltb, leb, eqb}
 use lib.ListN.{length, set}
 use Rattle.bits.specs.Bits.{bit, bitSet}
 use Rattle.crc.specs.Checksum.{resultOf}
-use Rattle.machine.specs.State.{Machine, Interrupts, Errors, withPage, withEnables, withRequests, withControl, withBitFraming, withRegisters}
+use Rattle.machine.specs.State.{Machine, Interrupts, Errors, withPage, withEnables, withRequests, withControl, withBitFraming, withRegisters, sixSources}
 use Rattle.machine.specs.Fifo.{registerAt, offered, firstOf, flushed, loAlert, hiAlert}
 use Rattle.machine.specs.Timer.{timerStarted, timerStopped}
 use Rattle.machine.specs.Commands.{codeOf, programs, commandWritten}
@@ -30,7 +30,7 @@ marked v k old = cond (bitSet v k) (bitSet v 7) old
 
 abbrev pub interruptsWritten : ℕ → Interrupts → Interrupts
 interruptsWritten v i =
-    record { timer = marked v 5 (i .timer); tx = marked v 4 (i .tx); rx = marked v 3 (i .rx); idle = marked v 2 (i .idle); hiAlert = marked v 1 (i .hiAlert); loAlert = marked v 0 (i .loAlert) }
+    sixSources (marked v 5 (i .timer)) (marked v 4 (i .tx)) (marked v 3 (i .rx)) (marked v 2 (i .idle)) (marked v 1 (i .hiAlert)) (marked v 0 (i .loAlert))
 
 -- "IRq is 1 if any request is also enabled."
 abbrev pub IRq : Machine → Bool

@@ -8,7 +8,8 @@ use Rattle.bits.specs.Bits.{Bytes}
 use lib.Dec.{ltb, leb, eqb}
 use lib.ListN.{length}
 use Rattle.crc.specs.Checksum.{CRC8}
-use Rattle.machine.specs.State.{Machine, Command, Writing, Timer, Checksum, Idle, WriteE2, ReadE2, LoadConfig, LoadKeyE2, LoadKey, CalcCRC, Transmit, Receive, TransceiveSending, TransceiveReceiving, addressing, ready, programming, withinWriteE2, whileProgramming}
+use Rattle.machine.specs.State.{Machine, Command, Writing, Timer, Checksum, withinWriteE2, whileProgramming}
+use Rattle.machine.specs.State.{Idle, WriteE2, ReadE2, LoadConfig, LoadKeyE2, LoadKey, CalcCRC, Transmit, Receive, TransceiveSending, TransceiveReceiving, addressing, ready, programming}
 use Rattle.machine.specs.Memory.{programmingClocks}
 
 -- "held bytes are at most 64".

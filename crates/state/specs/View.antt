@@ -7,7 +7,8 @@ use lib.Dec.{eqb}
 use lib.ListN.{getD, take}
 use Rattle.bits.specs.Bits.{bitSet}
 use Rattle.machine.specs.State as m
-use Rattle.machine.specs.State.{Machine, Command, Idle, WriteE2, ReadE2, LoadConfig, LoadKeyE2, LoadKey, CalcCRC, Transmit, Receive, TransceiveSending, TransceiveReceiving, addressing, ready, programming, withRequests, withErrors}
+use Rattle.machine.specs.State.{Machine, Command, withRequests, withErrors}
+use Rattle.machine.specs.State.{Idle, WriteE2, ReadE2, LoadConfig, LoadKeyE2, LoadKey, CalcCRC, Transmit, Receive, TransceiveSending, TransceiveReceiving, addressing, ready, programming}
 use Rattle.state.specs.declared.Chip.{Chip}
 
 -- The fields by name.

@@ -3,27 +3,26 @@ use state::PHASE;
 use state::PRESCALER;
 use state::RUNNING;
 use state::VALUE;
-ghost use Prim.Native.Nat.{_%_, _^_, _<_, _≤_};
+ghost use Prim.Native.Nat.{_%_, _^_, _≤_};
 ghost use mathlib.Core.Bool.{not, _&&_};
 ghost use mathlib.Core.Path.{_≡_};
 ghost use lib.Dec.{eqb};
 ghost use Rattle.bits.specs.Bits.{bitSet};
 ghost use Rattle.machine.specs.State.{Timer, withTimer};
 ghost use Rattle.machine.specs.Timer.{timerStopped, timerStarted};
-ghost use Rattle.state.specs.View.{isSet};
 ghost use Rattle.state.specs.Lent.{clocksState, clocksStateRegisters};
 ghost use Rattle.state.specs.Turns.{Turns};
 
-// The timer is running (1) or stopped (0), at a value and a prescaler; its phase is 0.
-fn timer_set(clocks: &mut [u32; 2], state: &mut [u8; 24], running: u8, value: u8, prescaler: u8)
+// The timer is running or stopped, at a value and a prescaler; its phase is 0.
+fn timer_set(clocks: &mut [u32; 2], state: &mut [u8; 24], running: bool, value: u8, prescaler: u8)
     ensures { λ r.
         let before = clocksState (now (clocks .entry)) (now (state .entry)) in
         let after = clocksState (now (clocks .exit)) (now (state .exit)) in
-        let timer : Timer = record { running = isSet running; value = value; prescaler = prescaler; phase = 0 } in
-        ⌜ (running < 2 → Turns (withTimer timer) before after) ⌝ }
+        let timer : Timer = record { running = running; value = value; prescaler = prescaler; phase = 0 } in
+        ⌜ Turns (withTimer timer) before after ⌝ }
 {
     clocks[PHASE] = 0;
-    state[RUNNING] = running;
+    state[RUNNING] = running as u8;
     state[PRESCALER] = prescaler;
     state[VALUE] = value;
 }
@@ -36,7 +35,7 @@ pub fn timer_stopped(clocks: &mut [u32; 2], state: &mut [u8; 24])
         ⌜ Turns timerStopped before after ⌝ }
 {
     let value = state[VALUE];
-    timer_set(clocks, state, 0, value, 0);
+    timer_set(clocks, state, false, value, 0);
 }
 
 // TimerReload and TPreScaler are loaded; a reload of 0 and a prescaler above 21 stop the timer at 0.
@@ -49,9 +48,9 @@ pub fn timer_started(clocks: &mut [u32; 2], state: &mut [u8; 24], registers: &[u
     let reload = registers[0x2C - 0x10];
     let prescaler = registers[0x2A - 0x10] % 32;
     if reload == 0 || 21 < prescaler {
-        timer_set(clocks, state, 0, 0, 0);
+        timer_set(clocks, state, false, 0, 0);
     } else {
-        timer_set(clocks, state, 1, reload, prescaler);
+        timer_set(clocks, state, true, reload, prescaler);
     }
 }
 

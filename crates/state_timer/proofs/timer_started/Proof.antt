@@ -7,7 +7,7 @@ use mathlib.Core.Path.{_≡_, sym, ap, _∙_}
 use mathlib.Core.List.{List}
 use mathlib.Core.Bool.{Bool, true, false, cond, _||_}
 use mathlib.Core.Logic.{⊎-elim}
-use lib.Dec.{eqb, ltb, lit<}
+use lib.Dec.{eqb, ltb}
 use Rattle.machine.specs.State.{withTimer}
 use Rattle.machine.specs.Timer.{stoppedAt, runningAt, timerStarted, TimerReload, TPreScaler}
 use Rattle.state.specs.View.{at, view, viewOf, withRegisters}
@@ -57,13 +57,13 @@ returns : tie.Need-returns
 unfolding viewOf
 returns c chip sizes =
     let test = c .before .before .before in
-    by-test true (stops (test .before) ∙ test .if2 .taken) (c .timer-set .ensures (lit< tt) (withRegisters (registers (test .before)) chip) sizes)
+    by-test true (stops (test .before) ∙ test .if2 .taken) (c .timer-set .ensures (withRegisters (registers (test .before)) chip) sizes)
 
 returns-2 : tie.Need-returns-2
 unfolding viewOf
 returns-2 c chip sizes =
     let test = c .before .before .before in
-    by-test false (stops (test .before) ∙ test .if2 .left) (c .timer-set2 .ensures (lit< tt) (withRegisters (registers (test .before)) chip) sizes)
+    by-test false (stops (test .before) ∙ test .if2 .left) (c .timer-set2 .ensures (withRegisters (registers (test .before)) chip) sizes)
 
 pub timer-started-spec : {M : Type 1} → statement M
 timer-started-spec =

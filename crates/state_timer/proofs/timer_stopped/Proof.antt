@@ -1,7 +1,6 @@
 -- `state_timer::timer_stopped` meets its contract: its callee sets the value that there was. Assumes nothing.
 use borrow.Author.Needs.{needs}
 use mathlib.Core.Path.{refl}
-use lib.Dec.{lit<}
 use Rattle.machine.specs.Timer.{timerStopped}
 use Rattle.state.specs.View.{viewOf}
 use Rattle.state.proofs.TurnLaws.{becomes}
@@ -16,7 +15,7 @@ timer-set-requires c κs = search needs
 
 returns : tie.Need-returns
 unfolding viewOf
-returns c chip sizes = becomes timerStopped (c .timer-set .ensures (lit< tt) chip sizes) refl
+returns c chip sizes = becomes timerStopped (c .timer-set .ensures chip sizes) refl
 
 pub timer-stopped-spec : {M : Type 1} → statement M
 timer-stopped-spec = tie.close (tie.spec element-copy-out-value timer-set-requires returns)

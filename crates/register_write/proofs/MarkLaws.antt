@@ -1,11 +1,12 @@
 -- The marked bits of InterruptEn and InterruptRq.
 -- Assumes nothing.
-use Prim.Native.Nat.{ℕ, _-_, _%_, _<_}
+use Prim.Native.Nat.{ℕ, _-_, _/_, _%_, _<_}
 use native.Mathlib.Omega.{arith}
 use mathlib.Core.Path.{_≡_, refl, sym, ap, _∙_}
 use mathlib.Core.Bool.{Bool, true, false, cond, not, _&&_, _||_}
-use lib.Bits.{bitOr, bitAnd}
-use lib.Dec.{eqb, lit<}
+use lib.Bits.{bitOr, bitAnd, or-shr, and-shr}
+use lib.Dec.{eqb, ltb, lit<}
+use borrow.Author.Tests.{lt-ltb, ltb-true}
 use Rattle.bits.specs.Bits.{bit, bitSet}
 use Rattle.bits.proofs.Below.{all, each, agree}
 use Rattle.machine.specs.State.{Interrupts}
@@ -28,6 +29,22 @@ set-marked false old to e = refl
 clear-marked : (a old to : Bool) → to ≡ false → (not a && old) ≡ cond a to old
 clear-marked true old to e = sym e
 clear-marked false old to e = refl
+
+-- Bits 7 and 6 stay under marks of bits 5-0.
+module _ (x marks : ℕ) (byte : x < 256) (low : marks < 64) where
+  pub high-set : bitOr x marks / 64 ≡ x / 64
+  high-set =
+      let none : marks / 64 ≡ 0 = omega arith in
+      or-shr x marks 6 ∙ ap (bitOr (x / 64)) none ∙ agree (λ n. bitOr n 0) (λ n. n) 4 tt (x / 64) (omega arith)
+
+  pub high-cleared : bitAnd x (255 - marks) / 64 ≡ x / 64
+  high-cleared =
+      let both : (255 - marks) / 64 ≡ 3 = omega arith in
+      and-shr x (255 - marks) 6 ∙ ap (bitAnd (x / 64)) both ∙ agree (λ n. bitAnd n 3) (λ n. n) 4 tt (x / 64) (omega arith)
+
+-- A byte with the same bits 7 and 6 has 0 there where the other has.
+pub high-clear : (x y : ℕ) → y / 64 ≡ x / 64 → ltb x 64 ≡ true → ltb y 64 ≡ true
+high-clear x y same clear = lt-ltb y 64 (omega (arith, same, ltb-true x 64 clear))
 
 -- A byte written with bit 7, and without it.
 module _ (x v : ℕ) (byte : v < 256) where

@@ -1,8 +1,8 @@
 // A write to a register, by its address after mapping: to every one but Command (01h) and FIFOData (02h). The alerts are judged over it: only FlushFIFO and a
 // write to FIFOLevel (29h) can move them.
+ghost use Prim.Native.Nat.{_/_};
 ghost use mathlib.Core.Path.{_≡_};
-ghost use mathlib.Core.Bool.{true, cond};
-ghost use lib.Dec.{ltb};
+ghost use mathlib.Core.Bool.{cond};
 ghost use Rattle.machine.specs.Fifo.{flushed as Fifo·flushed, alerted as Fifo·alerted};
 ghost use Rattle.machine.specs.Timer.{timerStarted, timerStopped};
 ghost use Rattle.machine.specs.Registers.{interruptsWritten, registerWritten};
@@ -22,10 +22,10 @@ use state_fifo::emptied;
 use state_timer::timer_started;
 use state_timer::timer_stopped;
 
-// InterruptEn and InterruptRq written: with bit 7 the marked bits are set, without it they are cleared.
+// InterruptEn and InterruptRq written: with bit 7 the marked bits of 5-0 are set, without it they are cleared. Bits 7 and 6 stay.
 fn marked_bits(old: u8, v: u8) -> u8
     ensures written { λ r. ⌜ interruptsOf r ≡ interruptsWritten v (interruptsOf old) ⌝ }
-    ensures below { λ r. ⌜ (ltb old 64 ≡ true → ltb r 64 ≡ true) ⌝ }
+    ensures kept { λ r. ⌜ r / 64 ≡ old / 64 ⌝ }
 {
     let marks = v % 64;
     if v / 128 % 2 == 1 {
@@ -99,8 +99,8 @@ fn control_written(clocks: &mut [u32; 2], state: &mut [u8; 24], registers: &[u8;
     state[CONTROL] = 32 * (v / 32 % 2) + 16 * (v / 16 % 2);
 }
 
-// Page is stored with its bits 7 and 2-0, at every eighth address; 10h-2Fh are stored whole. Nothing is done at Command and FIFOData, and at the registers that a
-// write does not change.
+// Page is stored with its bits 7 and 2-0, at every eighth address; 10h-2Fh are stored whole. Nothing is done at Command and FIFOData, and at the registers
+// that a write does not change.
 pub fn register_written(
     clocks: &mut [u32; 2],
     state: &mut [u8; 24],

@@ -16,7 +16,6 @@ use Rattle.state.specs.View.{Core, interruptsOf, errorsOf, commandOf}
 use Rattle.state.specs.Formed.{listed, byteFormed}
 use Rattle.state.proofs.FlagLaws.{and-bit}
 use Rattle.state.proofs.StageLaws.{Other, by-stage}
-use Rattle.event_host_read.specs.Shown.{anyCommon}
 
 -- A number of six bits is not 0 exactly where one of them is 1.
 abbrev anySet : ℕ → Bool
@@ -29,6 +28,16 @@ flag-set false = refl
 any-set : (x : ℕ) → x < 64 → not (eqb x 0) ≡ anySet x
 any-set x h =
     sym (flag-set (not (eqb x 0))) ∙ ap (λ (n : ℕ). eqb n 1) (agree (λ n. flag (not (eqb n 0))) (λ n. flag (anySet n)) 64 tt x h) ∙ flag-set (anySet x)
+
+-- Two bytes of interrupts have a source in common.
+abbrev anyCommon : ℕ → ℕ → Bool
+anyCommon x y =
+    bitSet x 5 && bitSet y 5
+    || bitSet x 4 && bitSet y 4
+    || bitSet x 3 && bitSet y 3
+    || bitSet x 2 && bitSet y 2
+    || bitSet x 1 && bitSet y 1
+    || bitSet x 0 && bitSet y 0
 
 -- Two bytes have a bit in common, where one of them has six.
 pub common-set : (x y : ℕ) → x < 64 → not (eqb (bitAnd x y) 0) ≡ anyCommon x y

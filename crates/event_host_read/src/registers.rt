@@ -1,10 +1,7 @@
 // What each register reads but FIFOData and PrimaryStatus, and which register an address is.
 ghost use mathlib.Core.Path.{_≡_};
-ghost use mathlib.Core.Bool.{true};
 ghost use Prim.Native.Nat.{_%_, _<_};
-ghost use Rattle.machine.specs.Registers.{errorByte, registerRead};
-ghost use Rattle.state.specs.View.{errorsOf};
-ghost use Rattle.state.specs.Formed.{byteFormed};
+ghost use Rattle.machine.specs.Registers.{registerRead};
 ghost use Rattle.state.specs.Lent.{clocksNumbersState, clocksNumbersStateRegisters};
 ghost use Rattle.event_host_read.specs.Shown.{Shows};
 use crate::status::secondary_status;
@@ -20,9 +17,10 @@ use state::STAGE;
 use state::VALUE;
 use state::held;
 
-// ErrorFlag (0Ah): the byte is the one that its flags make. That it is a byte is known of a parameter by value, and not of an element that is loaded.
+// ErrorFlag (0Ah) as it is stored. That it is a byte is known of a parameter by value, and not of an element that is loaded.
 fn error_flag(errors: u8) -> u8
-    ensures { λ r. ⌜ (byteFormed 7 errors ≡ true → r ≡ errorByte (errorsOf errors)) ⌝ }
+    ensures is { λ r. ⌜ r ≡ errors ⌝ }
+    ensures byte { λ r. ⌜ r < 256 ⌝ }
 {
     errors
 }
@@ -59,7 +57,8 @@ pub fn read(
     register: u8,
 ) -> u8
     ensures { λ r.
-        let lent = clocksNumbersStateRegisters (now (clocks .entry)) (now (numbers .entry)) (now (state .entry)) (now (registers .entry)) in
+        let lent = clocksNumbersStateRegisters (now (clocks .entry)) (now (numbers .entry)) (now (state .entry))
+        (now (registers .entry)) in
         ⌜ ((register ≡ 0x02 → ⊥) → (register ≡ 0x03 → ⊥) → Shows (registerRead register) lent r) ⌝ }
 {
     if register % 8 == 0 {

@@ -1,10 +1,12 @@
 // PrimaryStatus and SecondaryStatus: the flags that they show.
 ghost use mathlib.Core.Path.{_≡_};
-ghost use mathlib.Core.Bool.{true};
+ghost use mathlib.Core.Bool.{not};
+ghost use Prim.Native.Nat.{_<_};
+ghost use lib.Bits.{bitAnd};
+ghost use lib.Dec.{eqb};
 ghost use Rattle.machine.specs.Registers.{primaryStatus, secondaryStatus};
-ghost use Rattle.state.specs.Formed.{byteFormed};
 ghost use Rattle.state.specs.Lent.{clocksState, stateRegisters};
-ghost use Rattle.event_host_read.specs.Shown.{Shows, anyCommon, anyError};
+ghost use Rattle.event_host_read.specs.Shown.{Shows};
 use command_begin::programs;
 use state::ENABLES;
 use state::ERRORS;
@@ -16,14 +18,15 @@ use state_fifo::flag;
 
 // IRq: a request is also enabled.
 fn irq(enables: u8, requests: u8) -> bool
-    ensures { λ r. ⌜ (byteFormed 4 enables ≡ true → r ≡ anyCommon enables requests) ⌝ }
+    ensures { λ r. ⌜ r ≡ not (eqb (bitAnd enables requests) 0) ⌝ }
 {
     enables & requests != 0
 }
 
-// Err: a flag of ErrorFlag is set.
+// Err: a flag of ErrorFlag is set. That it is a byte is known of a parameter by value.
 fn err(errors: u8) -> bool
-    ensures { λ r. ⌜ (byteFormed 7 errors ≡ true → r ≡ anyError errors) ⌝ }
+    ensures is { λ r. ⌜ r ≡ not (eqb errors 0) ⌝ }
+    ensures byte { λ r. ⌜ errors < 256 ⌝ }
 {
     errors != 0
 }

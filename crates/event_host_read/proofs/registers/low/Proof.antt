@@ -3,7 +3,8 @@ use borrow.Author.Needs.{needs}
 use borrow.Author.Tests.{ltb-true, lt-leb, ne-eqb}
 use denote.Ref.{now}
 use Prim.Native.Nat.{ℕ, _/_, _%_}
-use mathlib.Core.Path.{refl, ap}
+use native.Mathlib.Omega.{arith}
+use mathlib.Core.Path.{refl, ap, _∙_}
 use lib.Dec.{lit<}
 use Rattle.machine.specs.Registers.{registerRead}
 use Rattle.machine.proofs.WellFormed.Parts.{each}
@@ -15,7 +16,7 @@ use Rattle.state.proofs.MeetLaws.{own-fields-formed}
 use Rattle.state.proofs.RingLaws.{count-length}
 use Rattle.state.proofs.StoreLaws.{byte-agrees, stage-agrees}
 use Rattle.event_host_read.proofs.ReadLaws.{read-as}
-use Rattle.event_host_read.proofs.ShownLaws.{interrupt-byte, stage-code}
+use Rattle.event_host_read.proofs.ShownLaws.{error-byte, interrupt-byte, stage-code}
 use Rattle.event_host_read.proofs.registers.low.Statement.{statement}
 use Rattle.event_host_read.proofs.registers.low.Tie as tie
 
@@ -124,7 +125,8 @@ unfolding viewOf registerRead
 returns-7 c below eighth n02 n03 chip formed =
     let found = c .before .before in
     let here = at-entry (found .before) chip in
-    read-as _ 0x0A _ (view here) (found .match .keys7) (c .error-flag .ensures (byte-agrees here (own-fields-formed here formed) 7 (lit< tt)))
+    let (is, byte) = c .error-flag .ensures in
+    read-as _ 0x0A _ (view here) (found .match .keys7) (is ∙ error-byte _ (omega (arith, is, byte)) (byte-agrees here (own-fields-formed here formed) 7 (lit< tt)))
 
 returns-8 : tie.Need-returns-8
 unfolding viewOf registerRead

@@ -1,16 +1,19 @@
 -- `event_host_read::status::primary_status` meets its contract, flag by flag. Assumes nothing.
 use borrow.Author.Needs.{needs}
 use denote.Ref.{now}
-use Prim.Native.Nat.{_+_, _*_}
+use borrow.Author.Tests.{ltb-true}
+use Prim.Native.Nat.{ℕ, _+_, _*_}
 use native.Mathlib.Omega.{arith}
 use mathlib.Core.Path.{_≡_, ap, _∙_}
-use lib.Dec.{lit<}
+use mathlib.Core.Bool.{not}
+use lib.Dec.{eqb, lit<}
 use Rattle.machine.specs.Fifo.{loAlert, hiAlert}
 use Rattle.machine.specs.Registers.{flag, IRq, Err}
-use Rattle.state.specs.View.{view, viewOf}
+use Rattle.state.specs.View.{at, view, viewOf}
 use Rattle.state.specs.Lent.{stateRegisters}
 use Rattle.state.proofs.MeetLaws.{own-fields-formed}
 use Rattle.state.proofs.StoreLaws.{byte-agrees}
+use Rattle.event_host_read.proofs.ShownLaws.{common-set, error-byte}
 use Rattle.event_host_read.proofs.status.primary_status.Statement.{statement}
 use Rattle.event_host_read.proofs.status.primary_status.Tie as tie
 
@@ -58,11 +61,13 @@ returns c chip formed =
     let call-flag = call-err .before .before in
     let call-irq = call-flag .before in
     let a = call-irq .before .before .before .args in
-    let here = stateRegisters (now (a .state)) (now (a .registers)) chip in
+    let bytes = now (a .state) in
+    let here = stateRegisters bytes (now (a .registers)) chip in
     let fields = own-fields-formed here formed in
     let m = view here in
-    let irq : call-flag .flag .result ≡ flag (IRq m) = call-flag .flag .ensures .0 ∙ ap flag (call-irq .irq .ensures (byte-agrees here fields 4 (lit< tt))) in
-    let err : call-flag2 .flag2 .result ≡ flag (Err m) = call-flag2 .flag2 .ensures .0 ∙ ap flag (call-err .err .ensures (byte-agrees here fields 7 (lit< tt))) in
+    let irq : call-flag .flag .result ≡ flag (IRq m) = call-flag .flag .ensures .0 ∙ ap flag (call-irq .irq .ensures ∙ common-set (at bytes 4) (at bytes 6) (ltb-true _ _ (byte-agrees here fields 4 (lit< tt)))) in
+    let (is, byte) = call-err .err .ensures in
+    let err : call-flag2 .flag2 .result ≡ flag (Err m) = call-flag2 .flag2 .ensures .0 ∙ ap flag (is ∙ ap (λ (n : ℕ). not (eqb n 0)) (error-byte (at bytes 7) byte (byte-agrees here fields 7 (lit< tt)))) in
     let alerts : c .alerts-of .result ≡ 2 * flag (hiAlert m) + flag (loAlert m) = c .alerts-of .ensures .0 here in
     omega arith
 

@@ -2,7 +2,6 @@
 -- Assumes nothing.
 use Prim.Native.Nat.{ℕ, zero, suc, _+_, _%_, _<_, _≤_, min}
 use native.Mathlib.Nat.{zero-min, min-zero, suc-min-suc}
-use native.Mathlib.Numerals.{add-one}
 use native.Mathlib.Omega.{arith}
 use mathlib.Core.Path.{_≡_, refl, sym, ap, _∙_}
 use mathlib.Core.Bool.{true, cond}
@@ -23,18 +22,29 @@ use Rattle.state.specs.declared.Chip.{Chip}
 use Rattle.state.proofs.RingLaws.{held-last, count-length}
 use Rattle.state.proofs.StoreLaws.{at-set, at-set-two, stored, bytes-agree}
 use Rattle.state.proofs.TurnLaws.{then, becomes, sized-clocks, sized-numbers, sized-state, sized-latch}
+use Rattle.command_write_e2.specs.Latched.{latchedFrom}
 
 -- The next byte is latched.
-pub latch-turn : (slots latch : List ℕ) (p i : ℕ) → length latch ≡ 16 → i < 16 → take i latch ≡ heldFrom slots p i →
-    take (i + 1) (set latch (i % 16) (getD slots ((p + i) % 64) 0)) ≡ heldFrom slots p (i + 1)
+latch-turn : (slots latch : List ℕ) (p i : ℕ) → length latch ≡ 16 → i < 16 → take i latch ≡ heldFrom slots p i →
+    take (suc i) (set latch (i % 16) (getD slots ((p + i) % 64) 0)) ≡ heldFrom slots p (suc i)
 latch-turn slots latch p i size small is =
     let from : i % 16 ≡ i = omega arith in
-    ap (λ (n : ℕ). take n (set latch (i % 16) (getD slots ((p + i) % 64) 0))) (add-one i)
-    ∙ ap (λ (n : ℕ). take (suc i) (set latch n (getD slots ((p + i) % 64) 0))) from
+    ap (λ (n : ℕ). take (suc i) (set latch n (getD slots ((p + i) % 64) 0))) from
     ∙ take-suc-set latch i (getD slots ((p + i) % 64) 0) (omega arith)
     ∙ ap (λ (l : List ℕ). l ++ getD slots ((p + i) % 64) 0 ∷ []) is
     ∙ sym (held-last slots p i)
-    ∙ ap (heldFrom slots p) (sym (add-one i))
+
+-- Inside the latch no place is changed by its remainder; and the latch keeps its length.
+pub latched-whole : (latch slots : List ℕ) (p n : ℕ) → length (latchedFrom latch slots p n) ≡ length latch
+unfolding latchedFrom
+latched-whole latch slots p zero = refl
+latched-whole latch slots p (suc n) = length-set (latchedFrom latch slots p n) (n % 16) (getD slots ((p + n) % 64) 0) ∙ latched-whole latch slots p n
+
+pub latched-fits : (latch slots : List ℕ) (p n : ℕ) → length latch ≡ 16 → n ≤ 16 → take n (latchedFrom latch slots p n) ≡ heldFrom slots p n
+unfolding latchedFrom heldFrom
+latched-fits latch slots p zero size few = refl
+latched-fits latch slots p (suc n) size few =
+    latch-turn slots (latchedFrom latch slots p n) p n (latched-whole latch slots p n ∙ size) (omega arith) (latched-fits latch slots p n size (omega arith))
 
 -- The first k of the held bytes, or all of them, and those behind.
 held-first : (slots : List ℕ) (p n k : ℕ) → take k (heldFrom slots p n) ≡ heldFrom slots p (min n k)

@@ -1,16 +1,16 @@
 // WriteE2, in two steps: it takes its address, and it latches held bytes up to the end of a block, which starts a programming. Each contract holds
 // whatever the stage is. Where a batch begins is told besides, for the end of its programming.
-ghost use Prim.Native.Nat.{_%_, _≤_, min};
+ghost use Prim.Native.Nat.{_%_, min};
 ghost use mathlib.Core.Path.{_≡_};
-ghost use lib.ListN.{length, take};
 ghost use Rattle.machine.specs.State.{addressing, ready};
 ghost use Rattle.machine.specs.Memory.{roomInBlock};
 ghost use Rattle.machine.specs.Commands.{writeStepped};
-ghost use Rattle.state.specs.View.{at, batchStart, heldFrom, view};
+ghost use Rattle.state.specs.View.{at, batchStart, view};
 ghost use Rattle.state.specs.Lent.{clocksNumbersStateSlots, clocksNumbersStateSlotsLatch};
 ghost use Rattle.state.specs.Turns.{Sizes, Turns};
 ghost use Rattle.state.specs.declared.Chip.{Chip};
 ghost use Rattle.command_write_e2.specs.Next.{nextAfter};
+ghost use Rattle.command_write_e2.specs.Latched.{latchedFrom};
 use command_arguments::address;
 use state::LATCHED;
 use state::LEFT;
@@ -30,12 +30,17 @@ pub fn address_taken(
     slots: &[u8; 64],
 )
     ensures turns { λ r.
-        let before = clocksNumbersStateSlots (now (clocks .entry)) (now (numbers .entry)) (now (state .entry)) (now (slots .entry)) in
-        let after = clocksNumbersStateSlots (now (clocks .exit)) (now (numbers .exit)) (now (state .exit)) (now (slots .entry)) in
+        let before = clocksNumbersStateSlots (now (clocks .entry)) (now (numbers .entry)) (now (state .entry))
+        (now (slots .entry)) in
+        let after = clocksNumbersStateSlots (now (clocks .exit)) (now (numbers .exit)) (now (state .exit))
+        (now (slots .entry)) in
         ⌜ Turns (writeStepped addressing) before after ⌝ }
     ensures next { λ r.
-        let before = clocksNumbersStateSlots (now (clocks .entry)) (now (numbers .entry)) (now (state .entry)) (now (slots .entry)) in
-        ⌜ ((c : Chip) → Sizes (before c) → at (now (numbers .exit)) 1 ≡ nextAfter (at (now (numbers .entry)) 1) (view (before c))) ⌝ }
+        let before = clocksNumbersStateSlots (now (clocks .entry)) (now (numbers .entry)) (now (state .entry))
+        (now (slots .entry)) in
+        let old = at (now (numbers .entry)) 1 in
+        let next = at (now (numbers .exit)) 1 in
+        ⌜ ((c : Chip) → Sizes (before c) → next ≡ nextAfter old (view (before c))) ⌝ }
 {
     if held(state) < 2 {
         return;
@@ -57,10 +62,9 @@ fn batch(count: u8, next: u16) -> u8
 
 // Held bytes, the first from a position on, are copied into the latch. An index is kept inside its array by a remainder.
 fn latch_bytes(latch: &mut [u8; 16], slots: &[u8; 64], position: u8, count: u8)
-    ensures latches { λ r.
-        let bytes = heldFrom (now (slots .entry)) position count in
-        ⌜ (length (now (latch .entry)) ≡ 16 → count ≤ 16 → take count (now (latch .exit)) ≡ bytes) ⌝ }
-    ensures whole { λ r. ⌜ length (now (latch .exit)) ≡ length (now (latch .entry)) ⌝ }
+    ensures { λ r.
+        let latched = latchedFrom (now (latch .entry)) (now (slots .entry)) position count in
+        ⌜ now (latch .exit) ≡ latched ⌝ }
 {
     let start = position as usize;
     let end = count as usize;
@@ -83,9 +87,12 @@ pub fn bytes_latched(
     latch: &mut [u8; 16],
 )
     ensures { λ r.
-        let before = clocksNumbersStateSlotsLatch (now (clocks .entry)) (now (numbers .entry)) (now (state .entry)) (now (slots .entry)) (now (latch .entry)) in
-        let after = clocksNumbersStateSlotsLatch (now (clocks .exit)) (now (numbers .exit)) (now (state .exit)) (now (slots .entry)) (now (latch .exit)) in
-        ⌜ Turns (writeStepped (ready (at (now (numbers .entry)) 1 % 0x200))) before after ⌝ }
+        let before = clocksNumbersStateSlotsLatch (now (clocks .entry)) (now (numbers .entry)) (now (state .entry))
+        (now (slots .entry)) (now (latch .entry)) in
+        let after = clocksNumbersStateSlotsLatch (now (clocks .exit)) (now (numbers .exit)) (now (state .exit))
+        (now (slots .entry)) (now (latch .exit)) in
+        let next = at (now (numbers .entry)) 1 in
+        ⌜ Turns (writeStepped (ready (next % 0x200))) before after ⌝ }
 {
     let waiting = held(state);
     if waiting == 0 {

@@ -2,7 +2,8 @@
 use denote.Ref.{now}
 use Prim.Native.Nat.{_%_}
 use native.Mathlib.Omega.{arith}
-use mathlib.Core.Path.{_∙_}
+use mathlib.Core.Path.{ap, _∙_}
+use lib.ListN.{length, take}
 use Rattle.machine.specs.State.{ready}
 use Rattle.machine.specs.Commands.{writeStepped}
 use Rattle.state.specs.View.{at, view, viewOf, withState}
@@ -10,7 +11,7 @@ use Rattle.state.specs.Lent.{clocksNumbersStateSlotsLatch}
 use Rattle.state.proofs.RingLaws.{count-length}
 use Rattle.state.proofs.TurnLaws.{stays, then, becomes}
 use Rattle.command_arguments.proofs.ArgumentLaws.{too-few}
-use Rattle.command_write_e2.proofs.WriteLaws.{refused-step, batch-turns}
+use Rattle.command_write_e2.proofs.WriteLaws.{refused-step, batch-turns, latched-whole, latched-fits}
 use borrow.Author.Needs.{needs}
 use Rattle.command_write_e2.proofs.bytes_latched.Statement.{statement}
 use Rattle.command_write_e2.proofs.bytes_latched.Tie as tie
@@ -88,10 +89,15 @@ returns-3 c chip sizes =
     let past = high .before .before in
     let a = past .before .before .before .args in
     let waiting = past .before .held in
-    batch-turns (now (a .clocks)) (now (a .numbers)) (now (a .state)) (c .taken .last .0) (now (a .slots)) (now (a .latch)) (copy .latch-bytes .last .0)
+    let latch = now (a .latch) in
+    let slots = now (a .slots) in
+    let position = at (now (a .state)) 13 in
+    let copied = copy .latch-bytes .ensures in
+    batch-turns (now (a .clocks)) (now (a .numbers)) (now (a .state)) (c .taken .last .0) slots latch (copy .latch-bytes .last .0)
     (at (now (a .numbers)) 1 % 0x200) (waiting .result) (few .batch .result) chip (waiting .ensures) (few .batch .ensures)
     (omega (arith, high .if2 .left)) (omega arith) (omega (arith, past .if1 .left)) sizes
-    (copy .latch-bytes .ensures .1 ∙ sizes .latch-count) (copy .latch-bytes .ensures .0 (sizes .latch-count) (omega (arith, few .batch .ensures))) (c .taken .ensures)
+    (ap length copied ∙ latched-whole latch slots position (few .batch .result) ∙ sizes .latch-count)
+    (ap (take (few .batch .result)) copied ∙ latched-fits latch slots position (few .batch .result) (sizes .latch-count) (omega (arith, few .batch .ensures))) (c .taken .ensures)
 
 pub bytes-latched-spec : {M : Type 1} → statement M
 bytes-latched-spec =

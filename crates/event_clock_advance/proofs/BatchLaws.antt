@@ -1,7 +1,6 @@
 -- Laws of the bytes that a programming stores, and of what a clock does to it.
 -- Assumes nothing.
 use Prim.Native.Nat.{ℕ, zero, suc, _+_, _-_, _%_, _<_, _≤_}
-use native.Mathlib.Numerals.{add-one}
 use native.Mathlib.Omega.{arith}
 use mathlib.Core.Path.{_≡_, refl, sym, ap, subst, _∙_}
 use mathlib.Core.Bool.{Bool, true, false, cond, true≢false, _&&_, _||_}
@@ -25,6 +24,7 @@ use Rattle.state.proofs.StageLaws.{by-stage}
 use Rattle.state.proofs.StoreLaws.{put, at-set, at-set-two, stored, stage-agrees, next-near, bytes-agree}
 use Rattle.state.proofs.TurnLaws.{sized-clocks, sized-state, sized-eeprom}
 use Rattle.command_work.proofs.SettleLaws.{settled-writes}
+use Rattle.event_clock_advance.specs.Clock.{storedWrapped}
 
 -- The next byte behind those stored.
 store-next : (bs eeprom : List ℕ) (a b : ℕ) → storedFrom eeprom a (bs ++ b ∷ []) ≡ set (storedFrom eeprom a bs) (a + length bs) b
@@ -34,11 +34,8 @@ store-next (x ∷ bs) eeprom a b =
     let on : a + 1 + length bs ≡ a + suc (length bs) = omega arith in
     store-next bs (set eeprom a x) (a + 1) b ∙ ap (λ (n : ℕ). set (storedFrom (set eeprom a x) (a + 1) bs) n b) on
 
-take-next : (xs : List ℕ) (i : ℕ) → i < length xs → take (i + 1) xs ≡ take i xs ++ getD xs i 0 ∷ []
-take-next xs i h = ap (λ (n : ℕ). take n xs) (add-one i) ∙ take-suc xs i 0 h
-
-pub store-turn : (eeprom latch now : List ℕ) (a i : ℕ) → length latch ≡ 16 → i < 16 → a + i < 512 → now ≡ storedFrom eeprom a (take i latch) →
-    set now ((a + i) % 512) (getD latch (i % 16) 0) ≡ storedFrom eeprom a (take (i + 1) latch)
+store-turn : (eeprom latch now : List ℕ) (a i : ℕ) → length latch ≡ 16 → i < 16 → a + i < 512 → now ≡ storedFrom eeprom a (take i latch) →
+    set now ((a + i) % 512) (getD latch (i % 16) 0) ≡ storedFrom eeprom a (take (suc i) latch)
 store-turn eeprom latch now a i size small inside is =
     let to : (a + i) % 512 ≡ a + i = omega arith in
     let from : i % 16 ≡ i = omega arith in
@@ -47,7 +44,19 @@ store-turn eeprom latch now a i size small inside is =
     ∙ ap (λ (n : ℕ). set now (a + length (take i latch)) (getD latch n 0)) from
     ∙ ap (λ (l : List ℕ). set l (a + length (take i latch)) (getD latch i 0)) is
     ∙ sym (store-next (take i latch) eeprom a (getD latch i 0))
-    ∙ ap (storedFrom eeprom a) (sym (take-next latch i (omega arith)))
+    ∙ ap (storedFrom eeprom a) (sym (take-suc latch i 0 (omega arith)))
+
+-- Inside both arrays no place is changed by its remainder; and the EEPROM keeps its length.
+pub wrapped-fits : (eeprom latch : List ℕ) (a n : ℕ) → length latch ≡ 16 → n ≤ 16 → a + n ≤ 512 → storedWrapped eeprom latch a n ≡ storedFrom eeprom a (take n latch)
+unfolding storedWrapped storedFrom
+wrapped-fits eeprom latch a zero size few inside = refl
+wrapped-fits eeprom latch a (suc n) size few inside =
+    store-turn eeprom latch (storedWrapped eeprom latch a n) a n size (omega arith) (omega arith) (wrapped-fits eeprom latch a n size (omega arith) (omega arith))
+
+pub wrapped-whole : (eeprom latch : List ℕ) (a n : ℕ) → length (storedWrapped eeprom latch a n) ≡ length eeprom
+unfolding storedWrapped
+wrapped-whole eeprom latch a zero = refl
+wrapped-whole eeprom latch a (suc n) = length-set (storedWrapped eeprom latch a n) ((a + n) % 512) (getD latch (n % 16) 0) ∙ wrapped-whole eeprom latch a n
 
 -- A batch that fits: 1 to 16 bytes, which end no further than the EEPROM, and end where the next byte goes.
 module _ (next latched : ℕ) (fits : batchFits next latched ≡ true) (near : next < 0x200) where

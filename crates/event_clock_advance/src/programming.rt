@@ -1,13 +1,10 @@
 // One clock of the programming that WriteE2 has started.
-ghost use Prim.Native.Nat.{_+_, _≤_};
 ghost use mathlib.Core.Bool.{true};
 ghost use mathlib.Core.Path.{_≡_};
-ghost use lib.ListN.{length, take};
-ghost use Rattle.machine.specs.Memory.{storedFrom};
 ghost use Rattle.state.specs.View.{at};
 ghost use Rattle.state.specs.Formed.{batchFits};
 ghost use Rattle.state.specs.Lent.{clocksNumbersStateSlotsLatchEeprom};
-ghost use Rattle.event_clock_advance.specs.Clock.{ends, clocksCommand, TurnsFormed};
+ghost use Rattle.event_clock_advance.specs.Clock.{storedWrapped, ends, clocksCommand, TurnsFormed};
 use command_write_e2::batch_start;
 use command_write_e2::bytes_latched;
 use state::LATCHED;
@@ -17,11 +14,11 @@ use state::STAGE;
 use state::held;
 use state::requested;
 
-// Stores the first latched bytes from an address on.
+// Stores the first latched bytes from an address on. An index is kept inside its array by a remainder.
 fn store_batch(eeprom: &mut [u8; 512], latch: &[u8; 16], address: u16, count: u8)
-    ensures stores { λ _. ⌜ (length (now (eeprom .entry)) ≡ 512 → length (now (latch .entry)) ≡ 16 → count ≤ 16 → address + count ≤ 512 →
-        now (eeprom .exit) ≡ storedFrom (now (eeprom .entry)) address (take count (now (latch .entry)))) ⌝ }
-    ensures whole { λ _. ⌜ length (now (eeprom .exit)) ≡ length (now (eeprom .entry)) ⌝ }
+    ensures { λ _.
+        let stored = storedWrapped (now (eeprom .entry)) (now (latch .entry)) address count in
+        ⌜ now (eeprom .exit) ≡ stored ⌝ }
 {
     let start = address as usize;
     let end = count as usize;
@@ -48,8 +45,9 @@ fn programmed(
         (now (slots .entry)) (now (latch .entry)) (now (eeprom .entry)) in
         let after = clocksNumbersStateSlotsLatchEeprom (now (clocks .exit)) (now (numbers .exit)) (now (state .exit))
         (now (slots .entry)) (now (latch .exit)) (now (eeprom .exit)) in
-        ⌜ (batchFits (at (now (numbers .entry)) 1) (at (now (state .entry)) 10) ≡ true →
-        TurnsFormed (ends (at (now (numbers .entry)) 1) (at (now (state .entry)) 10) (now (latch .entry))) before after) ⌝ }
+        let next = at (now (numbers .entry)) 1 in
+        let latched = at (now (state .entry)) 10 in
+        ⌜ (batchFits next latched ≡ true → TurnsFormed (ends next latched (now (latch .entry))) before after) ⌝ }
 {
     let latched = state[LATCHED];
     let waiting = held(state);

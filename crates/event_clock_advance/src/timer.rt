@@ -1,10 +1,7 @@
 // One clock of the timer.
-ghost use Prim.Native.Nat.{_<_};
-ghost use mathlib.Core.Path.{_≡_};
-ghost use Rattle.machine.specs.Timer.{timerStepped, timerClock};
-ghost use Rattle.state.specs.View.{at};
 ghost use Rattle.state.specs.Lent.{clocksStateRegisters};
 ghost use Rattle.state.specs.Turns.{Turns};
+ghost use Rattle.event_clock_advance.specs.Clock.{stepsTimer, clocksTimer};
 use state::PHASE;
 use state::PRESCALER;
 use state::RUNNING;
@@ -14,12 +11,12 @@ use state_timer::period;
 use state_timer::restarts;
 use state_timer::timer_stopped;
 
-// One timer step of a timer that runs: the value falls; from 1 on it raises TimerIRq, and stops, or begins again with TAutoRestart.
+// One timer step: the value falls; from 1 on it raises TimerIRq, and stops, or begins again with TAutoRestart.
 fn timer_stepped(clocks: &mut [u32; 2], state: &mut [u8; 24], registers: &[u8; 32])
     ensures { λ r.
         let before = clocksStateRegisters (now (clocks .entry)) (now (state .entry)) (now (registers .entry)) in
         let after = clocksStateRegisters (now (clocks .exit)) (now (state .exit)) (now (registers .entry)) in
-        ⌜ (at (now (state .entry)) 8 ≡ 1 → Turns timerStepped before after) ⌝ }
+        ⌜ Turns stepsTimer before after ⌝ }
 {
     let value = state[VALUE];
     let reload = registers[0x2C - 0x10];
@@ -44,7 +41,7 @@ pub fn timer_clocked(clocks: &mut [u32; 2], state: &mut [u8; 24], registers: &[u
     ensures { λ r.
         let before = clocksStateRegisters (now (clocks .entry)) (now (state .entry)) (now (registers .entry)) in
         let after = clocksStateRegisters (now (clocks .exit)) (now (state .exit)) (now (registers .entry)) in
-        ⌜ (at (now (state .entry)) 9 < 32 → Turns timerClock before after) ⌝ }
+        ⌜ Turns clocksTimer before after ⌝ }
 {
     if state[RUNNING] != 1 {
         return;

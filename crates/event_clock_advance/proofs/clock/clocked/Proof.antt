@@ -10,7 +10,7 @@ use Rattle.state.specs.View.{view, viewOf}
 use Rattle.state.specs.Lent.{clocksState}
 use Rattle.state.proofs.TurnLaws.{then, becomes}
 use Rattle.event_clock_advance.specs.Clock.{clockedIn}
-use Rattle.event_clock_advance.proofs.TimerLaws.{formed-fits}
+use Rattle.event_clock_advance.proofs.TimerLaws.{formed-fits, clock-fits}
 use Rattle.event_clock_advance.proofs.BatchLaws.{formed-by}
 use borrow.Author.Needs.{needs}
 use Rattle.event_clock_advance.proofs.clock.clocked.Statement.{statement}
@@ -31,7 +31,7 @@ returns c chip sizes formed well =
     let next = clocksState (ticks .timer-clocked .last .0) (ticks .timer-clocked .last .1 .0) old in
     let good = formed-good (view old) well in
     let (still-good, same) = ticked (view old) good in
-    let turn = ticks .timer-clocked .ensures (formed-fits (view old .timer) (good .0 .timer)) old sizes in
+    let turn = becomes timerClock (ticks .timer-clocked .ensures old sizes) (clock-fits (view old) (formed-fits (view old .timer) (good .0 .timer))) in
     becomes clock (then turn (c .command-clocked .ensures next (turn .sizes) (turn .fields formed) (formed-by (turn .machine) still-good)))
     (ap (λ (d : Command). commandClocked d (timerClock (view old))) same)
 

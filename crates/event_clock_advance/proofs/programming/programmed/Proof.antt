@@ -4,10 +4,9 @@ use Prim.Native.Nat.{ℕ}
 use native.Mathlib.Omega.{arith}
 use mathlib.Core.Path.{_≡_, sym, ap, _∙_}
 use mathlib.Core.Bool.{true}
-use lib.ListN.{set, take}
+use lib.ListN.{length, set, take}
 use borrow.Author.Tests.{ltb-true}
 use Rattle.machine.specs.State.{ready}
-use Rattle.machine.specs.Memory.{storedFrom}
 use Rattle.machine.specs.Commands.{writeStepped}
 use Rattle.machine.specs.Events.{batchStored}
 use Rattle.state.specs.View.{at, batchStart, view, viewOf}
@@ -18,8 +17,8 @@ use Rattle.state.specs.declared.Chip.{Chip}
 use Rattle.state.proofs.RingLaws.{count-length}
 use Rattle.state.proofs.StoreLaws.{next-near}
 use Rattle.state.proofs.TurnLaws.{then, becomes}
-use Rattle.event_clock_advance.specs.Clock.{ends}
-use Rattle.event_clock_advance.proofs.BatchLaws.{batch-few, batch-inside, batch-next, batch-turns, end-waits, end-latches}
+use Rattle.event_clock_advance.specs.Clock.{storedWrapped, ends}
+use Rattle.event_clock_advance.proofs.BatchLaws.{batch-few, batch-inside, batch-next, batch-turns, end-waits, end-latches, wrapped-fits, wrapped-whole}
 use borrow.Author.Needs.{needs}
 use Rattle.event_clock_advance.proofs.programming.programmed.Statement.{statement}
 use Rattle.event_clock_advance.proofs.programming.programmed.Tie as tie
@@ -76,11 +75,12 @@ stored copy fits chip sizes formed =
     let a = began copy .args in
     let latch = now (a .latch) in
     let near = ltb-true (next copy) 0x200 (next-near (at-entry copy chip) formed) in
-    let start = copy .before .batch-start .ensures in
-    let inside = batch-inside (next copy) (latched copy) fits near in
-    let copied = copy .store-batch .ensures .0 (sizes .eeprom-count) (sizes .latch-count) (batch-few (next copy) (latched copy) fits near) (omega (arith, start, inside)) in
-    batch-turns (now (a .clocks)) (now (a .numbers)) (now (a .state)) (now (a .slots)) latch (now (a .eeprom)) (copy .store-batch .last .0) fits near
-    (copied ∙ ap (λ (n : ℕ). storedFrom (now (a .eeprom)) n (take (latched copy) latch)) start) (copy .store-batch .ensures .1 ∙ sizes .eeprom-count) chip sizes
+    let eeprom = now (a .eeprom) in
+    let start = batchStart (next copy) (latched copy) in
+    let copied = copy .store-batch .ensures ∙ ap (λ (n : ℕ). storedWrapped eeprom latch n (latched copy)) (copy .before .batch-start .ensures) in
+    batch-turns (now (a .clocks)) (now (a .numbers)) (now (a .state)) (now (a .slots)) latch eeprom (copy .store-batch .last .0) fits near
+    (copied ∙ wrapped-fits eeprom latch start (latched copy) (sizes .latch-count) (batch-few (next copy) (latched copy) fits near) (batch-inside (next copy) (latched copy) fits near))
+    (ap length copied ∙ wrapped-whole eeprom latch start (latched copy) ∙ sizes .eeprom-count) chip sizes
 
 returns : tie.Need-returns
 unfolding viewOf

@@ -1,13 +1,12 @@
 -- `event_clock_advance::timer::timer_clocked` meets its contract: a timer that rests, one that counts, and one that steps. Assumes nothing.
 use denote.Ref.{now}
-use Prim.Native.Nat.{ℕ, _+_, _^_, _<_, _≤_}
+use Prim.Native.Nat.{_+_, _%_, _^_, _<_, _≤_}
 use native.Mathlib.Omega.{arith}
-use mathlib.Core.Path.{_≡_, ap, _∙_}
 use borrow.Author.Tests.{eq-eqb, ne-eqb}
-use Rattle.machine.specs.Timer.{timerClock}
 use Rattle.state.specs.View.{at, view, viewOf}
 use Rattle.state.specs.Lent.{clocksStateRegisters}
 use Rattle.state.proofs.TurnLaws.{stays, becomes}
+use Rattle.event_clock_advance.specs.Clock.{clocksTimer}
 use Rattle.event_clock_advance.proofs.TimerLaws.{counts-on, clock-counts, clock-steps, clock-stays}
 use borrow.Author.Needs.{needs}
 use Rattle.event_clock_advance.proofs.timer.timer_clocked.Statement.{statement}
@@ -18,10 +17,10 @@ element-copy-out-if1 c = search needs
 
 returns : tie.Need-returns
 unfolding viewOf
-returns c fits chip sizes =
+returns c chip sizes =
     let a = c .before .before .args in
     let old = clocksStateRegisters (now (a .clocks)) (now (a .state)) (now (a .registers)) chip in
-    becomes timerClock (stays old sizes) (clock-stays (view old) (ne-eqb (at (now (a .state)) 8) 1 (c .if1 .taken)))
+    becomes clocksTimer (stays old sizes) (clock-stays (view old) (ne-eqb (at (now (a .state)) 8) 1 (c .if1 .taken)))
 
 element-copy-out-phase : tie.Need-element-copy-out-phase
 element-copy-out-phase c = search needs
@@ -43,33 +42,31 @@ element-write-clocks c = search needs
 
 returns-2 : tie.Need-returns-2
 unfolding viewOf
-returns-2 c fits chip sizes =
+returns-2 c chip sizes =
     let asked = c .before in
     let past = asked .before .before .before in
     let a = past .before .before .args in
     let old = clocksStateRegisters (now (a .clocks)) (now (a .state)) (now (a .registers)) chip in
     let phase = at (now (a .clocks)) 0 in
-    let p = at (now (a .state)) 9 in
-    let is : asked .period .result ≡ 2 ^ p = asked .period .ensures .0 ∙ ap (λ (n : ℕ). 2 ^ n) (omega arith) in
-    let more : phase + 1 < 2 ^ p = omega (arith, is, c .if2 .taken) in
-    becomes timerClock (counts-on (now (a .clocks)) (now (a .state)) (phase + 1) old sizes) (clock-counts (view old) (eq-eqb (at (now (a .state)) 8) 1 (past .if1 .left)) more)
+    let p = at (now (a .state)) 9 % 32 in
+    let more : phase + 1 < 2 ^ p = omega (arith, asked .period .ensures .0, c .if2 .taken) in
+    becomes clocksTimer (counts-on (now (a .clocks)) (now (a .state)) (phase + 1) old sizes) (clock-counts (view old) (eq-eqb (at (now (a .state)) 8) 1 (past .if1 .left)) more)
 
 timer-stepped-requires : tie.Need-timer-stepped-requires
 timer-stepped-requires c κs = search needs
 
 returns-3 : tie.Need-returns-3
 unfolding viewOf
-returns-3 c fits chip sizes =
+returns-3 c chip sizes =
     let rests = c .before .before .before in
     let asked = rests .before in
     let past = asked .before .before .before in
     let a = past .before .before .args in
     let old = clocksStateRegisters (now (a .clocks)) (now (a .state)) (now (a .registers)) chip in
     let phase = at (now (a .clocks)) 0 in
-    let p = at (now (a .state)) 9 in
-    let is : asked .period .result ≡ 2 ^ p = asked .period .ensures .0 ∙ ap (λ (n : ℕ). 2 ^ n) (omega arith) in
-    let all : 2 ^ p ≤ phase + 1 = omega (arith, is, rests .if2 .left) in
-    becomes timerClock (c .timer-stepped .ensures (past .if1 .left) chip sizes) (clock-steps (view old) (eq-eqb (at (now (a .state)) 8) 1 (past .if1 .left)) all)
+    let p = at (now (a .state)) 9 % 32 in
+    let all : 2 ^ p ≤ phase + 1 = omega (arith, asked .period .ensures .0, rests .if2 .left) in
+    becomes clocksTimer (c .timer-stepped .ensures chip sizes) (clock-steps (view old) (eq-eqb (at (now (a .state)) 8) 1 (past .if1 .left)) all)
 
 pub timer-clocked-spec : {M : Type 1} → statement M
 timer-clocked-spec =

@@ -4,12 +4,11 @@ use Prim.Native.Nat.{_-_}
 use mathlib.Core.Path.{refl, sym, _∙_}
 use lib.Dec.{lit<}
 use lib.ListN.{set}
-use borrow.Author.Tests.{eq-eqb}
-use Rattle.machine.specs.Timer.{timerStepped}
 use Rattle.state.specs.View.{at, view, viewOf}
 use Rattle.state.specs.Lent.{clocksState, clocksStateRegisters}
 use Rattle.state.proofs.StoreLaws.{set-byte}
 use Rattle.state.proofs.TurnLaws.{then, becomes}
+use Rattle.event_clock_advance.specs.Clock.{stepsTimer}
 use Rattle.event_clock_advance.proofs.TimerLaws.{valueGone, goes-on, step-falls, step-restarts, step-stops}
 use borrow.Author.Needs.{needs}
 use Rattle.event_clock_advance.proofs.timer.timer_stepped.Statement.{statement}
@@ -35,11 +34,10 @@ element-write-state c = search needs
 
 returns : tie.Need-returns
 unfolding viewOf
-returns c runs chip sizes =
+returns c chip sizes =
     let a = c .before .before .before .args in
     let old = clocksStateRegisters (now (a .clocks)) (now (a .state)) (now (a .registers)) chip in
-    becomes timerStepped (goes-on (now (a .clocks)) (now (a .state)) (at (now (a .state)) 15 - 1) 0 old sizes)
-    (step-falls (view old) (eq-eqb (at (now (a .state)) 8) 1 runs) (c .if1 .taken))
+    becomes stepsTimer (goes-on (now (a .clocks)) (now (a .state)) (at (now (a .state)) 15 - 1) 0 old sizes) (step-falls (view old) (c .if1 .taken))
 
 sub-restarts : tie.Need-sub-restarts
 sub-restarts c = search needs
@@ -61,7 +59,7 @@ requested-requires c κs = search needs
 
 returns-2 : tie.Need-returns-2
 unfolding viewOf
-returns-2 c runs chip sizes =
+returns-2 c chip sizes =
     let taken = c .before .before in
     let asked = taken .before in
     let past = asked .before .before in
@@ -70,8 +68,8 @@ returns-2 c runs chip sizes =
     let reload = at (now (a .registers)) 0x1C in
     let goes = goes-on (now (a .clocks)) (now (a .state)) reload 0 old sizes in
     let next = clocksState (set (now (a .clocks)) 0 0) (set (now (a .state)) 15 reload) old in
-    becomes timerStepped (then goes (c .requested .ensures next (goes .sizes)))
-    (step-restarts (view old) (past .if1 .left) (eq-eqb (at (now (a .state)) 8) 1 runs) (sym (asked .restarts .ensures) ∙ taken .if2 .taken))
+    becomes stepsTimer (then goes (c .requested .ensures next (goes .sizes)))
+    (step-restarts (view old) (past .if1 .left) (sym (asked .restarts .ensures) ∙ taken .if2 .taken))
 
 timer-stopped-requires : tie.Need-timer-stopped-requires
 timer-stopped-requires c κs = search needs
@@ -84,7 +82,7 @@ requested-requires-2 c κs = search needs
 
 returns-3 : tie.Need-returns-3
 unfolding viewOf
-returns-3 c runs chip sizes =
+returns-3 c chip sizes =
     let stops = c .before .before in
     let left = stops .before .before .before in
     let asked = left .before in
@@ -96,7 +94,7 @@ returns-3 c runs chip sizes =
     let stopped = clocksState (stops .timer-stopped .last .0) l old in
     let none = set-byte valueGone l 15 0 stopped (lit< tt) refl (stop .sizes) refl (λ bytes. refl) in
     let next = clocksState (stops .timer-stopped .last .0) (set l 15 0) old in
-    becomes timerStepped (then (then stop none) (c .requested2 .ensures next (none .sizes)))
+    becomes stepsTimer (then (then stop none) (c .requested2 .ensures next (none .sizes)))
     (step-stops (view old) (past .if1 .left) (sym (asked .restarts .ensures) ∙ left .if2 .left))
 
 pub timer-stepped-spec : {M : Type 1} → statement M

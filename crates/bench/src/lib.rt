@@ -86,7 +86,9 @@ pub extern "C" fn mfrc531_advance(chip: &mut Chip, clocks: u32) -> u32
 // A take of the frame that the chip sends, into a buffer.
 #[no_mangle]
 pub extern "C" fn mfrc531_take(chip: &mut Chip, buffer: &mut [u8]) -> u32
-    ensures { λ r. ⌜ Meets (now (chip .entry)) (takeFrame (now (buffer .entry))) (now (chip .exit)) r (now (buffer .exit)) ⌝ }
+    ensures { λ r.
+        let call = takeFrame (now (buffer .entry)) in
+        ⌜ Meets (now (chip .entry)) call (now (chip .exit)) r (now (buffer .exit)) ⌝ }
 {
     event_frame_take::take(
         &mut chip.clocks,
@@ -106,7 +108,9 @@ pub extern "C" fn mfrc531_deliver(
     parities: &[u8],
     last_bits: u8,
 ) -> u32
-    ensures { λ r. ⌜ Meets (now (chip .entry)) (deliver (now (bytes .entry)) (now (parities .entry)) «last_bits») (now (chip .exit)) r [] ⌝ }
+    ensures { λ r.
+        let call = deliver (now (bytes .entry)) (now (parities .entry)) «last_bits» in
+        ⌜ Meets (now (chip .entry)) call (now (chip .exit)) r [] ⌝ }
 {
     event_frame_deliver::deliver(
         &mut chip.clocks,

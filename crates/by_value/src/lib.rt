@@ -203,7 +203,9 @@ pub fn take(chip: Chip, buffer: &mut [u8]) -> Outcome
 
 // A delivery of a frame that the chip receives.
 pub fn deliver(chip: Chip, bytes: &[u8], parities: &[u8], last_bits: u8) -> Outcome
-    ensures { λ r. ⌜ Meets chip (Refusals·deliver (now (bytes .entry)) (now (parities .entry)) «last_bits») (r .chip) (r .answer) [] ⌝ }
+    ensures { λ r.
+        let call = Refusals·deliver (now (bytes .entry)) (now (parities .entry)) «last_bits» in
+        ⌜ Meets chip call (r .chip) (r .answer) [] ⌝ }
 {
     let mut clocks = chip.clocks;
     let numbers = chip.numbers;

@@ -28,8 +28,8 @@ pub fn programs(clocks: &[u32; 2], state: &[u8; 24]) -> bool
     (stage == 0x01) | (stage == 0x41)
 }
 
-// CalcCRC starts: it reads its mode and presets. The mode is stored only where it is another: it lies in a word that is judged at every host access, and a store
-// delays the load of that word.
+// CalcCRC starts: it reads its mode and presets. The mode is stored only where it is another: it lies in a word that is judged at every host access, and a
+// store delays the load of that word.
 pub fn checksum_started(numbers: &mut [u16; 6], state: &mut [u8; 24], registers: &[u8; 32])
     ensures { λ r.
         let before = numbersStateRegisters (now (numbers .entry)) (now (state .entry)) (now (registers .entry)) in
@@ -66,8 +66,10 @@ fn begun(
     code: u8,
 )
     ensures { λ r.
-        let before = clocksNumbersStateRegisters (now (clocks .entry)) (now (numbers .entry)) (now (state .entry)) (now (registers .entry)) in
-        let after = clocksNumbersStateRegisters (now (clocks .exit)) (now (numbers .exit)) (now (state .exit)) (now (registers .entry)) in
+        let before = clocksNumbersStateRegisters (now (clocks .entry)) (now (numbers .entry)) (now (state .entry))
+        (now (registers .entry)) in
+        let after = clocksNumbersStateRegisters (now (clocks .exit)) (now (numbers .exit)) (now (state .exit))
+        (now (registers .entry)) in
         ⌜ Turns (commandStarted code) before after ⌝ }
 {
     match code {
@@ -103,8 +105,10 @@ pub fn command_written(
     v: u8,
 )
     ensures { λ r.
-        let before = clocksNumbersStateRegisters (now (clocks .entry)) (now (numbers .entry)) (now (state .entry)) (now (registers .entry)) in
-        let after = clocksNumbersStateRegisters (now (clocks .exit)) (now (numbers .exit)) (now (state .exit)) (now (registers .entry)) in
+        let before = clocksNumbersStateRegisters (now (clocks .entry)) (now (numbers .entry)) (now (state .entry))
+        (now (registers .entry)) in
+        let after = clocksNumbersStateRegisters (now (clocks .exit)) (now (numbers .exit)) (now (state .exit))
+        (now (registers .entry)) in
         ⌜ Turns (commandWritten v) before after ⌝ }
 {
     if programs(clocks, state) {

@@ -38,7 +38,9 @@ fn held_key(slots: &[u8; 64], position: u8) -> [u8; 12]
 // Twelve bytes of the EEPROM from an address on.
 fn stored_key(eeprom: &[u8; 512], address: u16) -> [u8; 12]
     requires { ⌜ address ≤ 0x1F4 ⌝ }
-    ensures { λ r. ⌜ (length (now (eeprom .entry)) ≡ 512 → r ≡ bytesFrom (now (eeprom .entry)) address 12) ⌝ }
+    ensures { λ r.
+        let memory = now (eeprom .entry) in
+        ⌜ (length memory ≡ 512 → r ≡ bytesFrom memory address 12) ⌝ }
 {
     let start = address as usize;
     let mut bytes = [0u8; 12];
@@ -103,8 +105,10 @@ pub fn load_key_e2(
     eeprom: &[u8; 512],
 )
     ensures { λ r.
-        let before = clocksStateSlotsKeyEeprom (now (clocks .entry)) (now (state .entry)) (now (slots .entry)) (now (key .entry)) (now (eeprom .entry)) in
-        let after = clocksStateSlotsKeyEeprom (now (clocks .exit)) (now (state .exit)) (now (slots .entry)) (now (key .exit)) (now (eeprom .entry)) in
+        let before = clocksStateSlotsKeyEeprom (now (clocks .entry)) (now (state .entry)) (now (slots .entry)) (now (key .entry))
+        (now (eeprom .entry)) in
+        let after = clocksStateSlotsKeyEeprom (now (clocks .exit)) (now (state .exit)) (now (slots .entry)) (now (key .exit))
+        (now (eeprom .entry)) in
         ⌜ Turns (steppedAs LoadKeyE2) before after ⌝ }
 {
     if held(state) < 2 {

@@ -69,8 +69,10 @@ pub fn read_e2(
     eeprom: &[u8; 512],
 )
     ensures { λ r.
-        let before = clocksStateSlotsEeprom (now (clocks .entry)) (now (state .entry)) (now (slots .entry)) (now (eeprom .entry)) in
-        let after = clocksStateSlotsEeprom (now (clocks .exit)) (now (state .exit)) (now (slots .exit)) (now (eeprom .entry)) in
+        let before = clocksStateSlotsEeprom (now (clocks .entry)) (now (state .entry)) (now (slots .entry))
+        (now (eeprom .entry)) in
+        let after = clocksStateSlotsEeprom (now (clocks .exit)) (now (state .exit)) (now (slots .exit))
+        (now (eeprom .entry)) in
         ⌜ Turns (steppedAs ReadE2) before after ⌝ }
 {
     if held(state) < 3 {

@@ -84,8 +84,10 @@ fn received(
     last_bits: u8,
 )
     ensures { λ r.
-        let before = clocksStateRegistersSlots (now (clocks .entry)) (now (state .entry)) (now (registers .entry)) (now (slots .entry)) in
-        let after = clocksStateRegistersSlots (now (clocks .exit)) (now (state .exit)) (now (registers .entry)) (now (slots .exit)) in
+        let before = clocksStateRegistersSlots (now (clocks .entry)) (now (state .entry)) (now (registers .entry))
+        (now (slots .entry)) in
+        let after = clocksStateRegistersSlots (now (clocks .exit)) (now (state .exit)) (now (registers .entry))
+        (now (slots .exit)) in
         ⌜ Turns (Frames·received (now (bytes .entry)) (now (parities .entry)) «last_bits») before after ⌝ }
 {
     rx_stopped(clocks, state, registers);

@@ -63,7 +63,8 @@ fn frame_into(state: &[u8; 24], registers: &[u8; 32], slots: &[u8; 64], buffer: 
     requires { ⌜ 66 ≤ length (now buffer) ⌝ }
     ensures puts { λ r.
         let lent = stateRegistersSlots (now (state .entry)) (now (registers .entry)) (now (slots .entry)) in
-        ⌜ ((c : Chip) → length (view (lent c) .held) ≤ 64 → Put (frameSent (view (lent c))) (now (buffer .entry)) r (now (buffer .exit))) ⌝ }
+        ⌜ ((c : Chip) → length (view (lent c) .held) ≤ 64 →
+        Put (frameSent (view (lent c))) (now (buffer .entry)) r (now (buffer .exit))) ⌝ }
     ensures few { λ r. ⌜ r ≤ 66 ⌝ }
 {
     let count = least(held(state) as usize, 64);

@@ -1,7 +1,7 @@
 // A host write on lent arrays: what an address's register does with a byte, and what the active command then does with bytes that wait.
 //
-// A write of FIFOData and of Command has the command do what it can; no other write lets it do more than it could before. CalcCRC, by which a host sums byte after
-// byte, has ways of its own, in which no byte passes through the FIFO.
+// A write of FIFOData and of Command has the command do what it can; no other write lets it do more than it could before. CalcCRC, by which a host sums
+// byte after byte, has ways of its own, in which no byte passes through the FIFO.
 ghost use mathlib.Core.Path.{_≡_};
 ghost use mathlib.Core.List.{[]};
 ghost use Rattle.machine.specs.Fifo.{offered as Fifo·offered, alerted as Fifo·alerted};

@@ -14,7 +14,8 @@ ghost use Rattle.frame_checks.specs.Trailing.{trailingCrc};
 // last bits.
 fn trailing_crc(redundancy: u8, count: usize, last_bits: u8) -> usize
     ensures counts { λ r.
-        ⌜ ((m : Machine) (bytes : List ℕ) → registerAt m 0x22 ≡ redundancy → length bytes ≡ count → r ≡ trailingCrc m bytes «last_bits») ⌝ }
+        ⌜ ((m : Machine) (bytes : List ℕ) → registerAt m 0x22 ≡ redundancy → length bytes ≡ count →
+        r ≡ trailingCrc m bytes «last_bits») ⌝ }
     ensures inside { λ r. ⌜ r ≤ count ⌝ }
 {
     let width = 2 - (redundancy / 16 % 2) as usize;

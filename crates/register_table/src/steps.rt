@@ -96,7 +96,9 @@ pub fn feed(chip: Chip, bytes: &[u8], step: &[u8]) -> Chip
 
 // A command and the bytes for it.
 pub fn command(chip: Chip, code: u8, bytes: &[u8], step: &[u8]) -> Chip
-    ensures { λ r. ⌜ LeadsBy (hostWrite 0x07 0x3F ∷ hostWrite 0x01 code ∷ map (hostWrite 0x02) (now (bytes .entry))) chip r ⌝ }
+    ensures { λ r.
+        let calls = hostWrite 0x07 0x3F ∷ hostWrite 0x01 code ∷ map (hostWrite 0x02) (now (bytes .entry)) in
+        ⌜ LeadsBy calls chip r ⌝ }
 {
     let active = by_value::host_write(cleared(chip), COMMAND, code);
     shown(fed(active, bytes), step)
@@ -134,7 +136,9 @@ pub fn take_short(chip: Chip, step: &[u8]) -> Chip
 }
 
 pub fn deliver(chip: Chip, bytes: &[u8], parities: &[u8], last_bits: u8, step: &[u8]) -> Chip
-    ensures { λ r. ⌜ LeadsBy (hostWrite 0x07 0x3F ∷ Refusals·deliver (now (bytes .entry)) (now (parities .entry)) «last_bits» ∷ []) chip r ⌝ }
+    ensures { λ r.
+        let delivery = Refusals·deliver (now (bytes .entry)) (now (parities .entry)) «last_bits» in
+        ⌜ LeadsBy (hostWrite 0x07 0x3F ∷ delivery ∷ []) chip r ⌝ }
 {
     shown(
         by_value::deliver(cleared(chip), bytes, parities, last_bits),

@@ -2,21 +2,21 @@
 -- Assumes nothing.
 use Prim.Native.Nat.{ℕ, _/_, _%_}
 use mathlib.Core.Bool.{true, false}
-use mathlib.Core.List.{List, [], _∷_, map}
+use mathlib.Core.List.{List, [], _∷_, _++_, map}
 use mathlib.Core.Path.{_≡_}
 use Rattle.crc.specs.Checksum.{checksum}
 use Rattle.key.specs.Key.{stored, formatHolds, keyOf}
 use Rattle.profile.specs.Answer.{pass, refuse-at}
 use Rattle.profile.specs.FixedBits.{fixedBits}
 use Rattle.profile.specs.Check.{judged}
-use lib.ListN.{length, replicate}
-use Rattle.machine.specs.State.{Machine}
+use lib.ListN.{length, replicate, take, drop}
+use Rattle.machine.specs.State.{Machine, Idle}
 use Rattle.machine.specs.Refusals.{Call, hostWrite, advance}
 use Rattle.machine.specs.Fifo.{loAlert, hiAlert}
 use Rattle.machine.specs.Events.{started, afterCalls}
 use Rattle.profile.specs.Shipped.{shipped, shippedWith, shippedImage}
 
--- A checksum as its two bytes, low then high.
+-- A checksum, or an address, as its two bytes, low then high.
 abbrev pub lowHigh : ℕ → List ℕ
 lowHigh n = n % 256 ∷ n / 256 ∷ []
 
@@ -36,6 +36,39 @@ offers n = replicate n (hostWrite 0x02 0x00)
 -- A command's code and its argument bytes.
 abbrev pub command : ℕ → List ℕ → List Call
 command code arguments = hostWrite 0x01 code ∷ map (hostWrite 0x02) arguments
+
+-- Thirty-two bytes, no two the same and none of them 00h.
+abbrev pub distinctBytes : List ℕ
+distinctBytes =
+    0xA0 ∷ 0xA1 ∷ 0xA2 ∷ 0xA3 ∷ 0xA4 ∷ 0xA5 ∷ 0xA6 ∷ 0xA7
+    ∷ 0xA8 ∷ 0xA9 ∷ 0xAA ∷ 0xAB ∷ 0xAC ∷ 0xAD ∷ 0xAE ∷ 0xAF
+    ∷ 0xB0 ∷ 0xB1 ∷ 0xB2 ∷ 0xB3 ∷ 0xB4 ∷ 0xB5 ∷ 0xB6 ∷ 0xB7
+    ∷ 0xB8 ∷ 0xB9 ∷ 0xBA ∷ 0xBB ∷ 0xBC ∷ 0xBD ∷ 0xBE ∷ 0xBF
+    ∷ []
+
+-- The shipped image with these at 060h-07Fh.
+abbrev pub distinctImage : List ℕ
+distinctImage = take 0x60 shippedImage ++ (distinctBytes ++ drop 0x80 shippedImage)
+
+-- A chip started from that image, and calls on it.
+abbrev pub afterDistinct : List Call → Machine
+afterDistinct calls = afterCalls (started distinctImage) calls
+
+-- The same bytes as registers 10h-2Fh once they are loaded: the Page positions, which a start leaves 0, are skipped.
+abbrev pub distinctLoaded : List ℕ
+distinctLoaded =
+    0x00 ∷ 0xA1 ∷ 0xA2 ∷ 0xA3 ∷ 0xA4 ∷ 0xA5 ∷ 0xA6 ∷ 0xA7
+    ∷ 0x00 ∷ 0xA9 ∷ 0xAA ∷ 0xAB ∷ 0xAC ∷ 0xAD ∷ 0xAE ∷ 0xAF
+    ∷ 0x00 ∷ 0xB1 ∷ 0xB2 ∷ 0xB3 ∷ 0xB4 ∷ 0xB5 ∷ 0xB6 ∷ 0xB7
+    ∷ 0x00 ∷ 0xB9 ∷ 0xBA ∷ 0xBB ∷ 0xBC ∷ 0xBD ∷ 0xBE ∷ 0xBF
+    ∷ []
+
+-- A LoadConfig from an address, and a ReadE2 of so many bytes from one.
+abbrev pub loadConfig : ℕ → Machine
+loadConfig address = afterDistinct (command 0x07 (lowHigh address))
+
+abbrev pub readE2 : ℕ → ℕ → Machine
+readE2 address count = afterDistinct (command 0x03 (lowHigh address ++ count ∷ []))
 
 -- Paging off, TimerReload 3, TPreScaler 1, TStartNow, and clocks.
 abbrev pub timerRun : ℕ → List Call
@@ -65,13 +98,20 @@ pub record NumbersToMeet : Type 0 where
   pub lo-alert-not-at-9 : loAlert (afterStart (offers 9)) ≡ false
   pub hi-alert-at-56 : hiAlert (afterStart (offers 56)) ≡ true
   pub hi-alert-not-at-55 : hiAlert (afterStart (offers 55)) ≡ false
-  -- "LoadConfig from 060h works, 061h is AccessErr."
-  pub load-config-060 : afterStart (command 0x07 (0x60 ∷ 0x00 ∷ [])) .status .errors .accessErr ≡ false
-  pub load-config-061 : afterStart (command 0x07 (0x61 ∷ 0x00 ∷ [])) .status .errors .accessErr ≡ true
-  -- "ReadE2 07Fh count 1 works, count 2 is AccessErr."
-  pub read-e2-count-1 : afterStart (command 0x03 (0x7F ∷ 0x00 ∷ 1 ∷ [])) .held ≡ 0x00 ∷ []
-  pub read-e2-count-1-flag : afterStart (command 0x03 (0x7F ∷ 0x00 ∷ 1 ∷ [])) .status .errors .accessErr ≡ false
-  pub read-e2-count-2 : afterStart (command 0x03 (0x7F ∷ 0x00 ∷ 2 ∷ [])) .status .errors .accessErr ≡ true
+  -- "LoadConfig from 060h works, 061h is AccessErr": the bytes from there are in the registers, or these are as the start left them; either
+  -- way the command has ended.
+  pub load-config-060 : loadConfig 0x060 .registers ≡ distinctLoaded
+  pub load-config-060-flag : loadConfig 0x060 .status .errors .accessErr ≡ false
+  pub load-config-060-ends : loadConfig 0x060 .command ≡ Idle
+  pub load-config-060-request : loadConfig 0x060 .status .requests .idle ≡ true
+  pub load-config-061 : loadConfig 0x061 .status .errors .accessErr ≡ true
+  pub load-config-061-registers : loadConfig 0x061 .registers ≡ started distinctImage .registers
+  pub load-config-061-ends : loadConfig 0x061 .command ≡ Idle
+  -- "ReadE2 07Fh count 1 works, count 2 is AccessErr": the byte there is held, or none.
+  pub read-e2-count-1 : readE2 0x07F 1 .held ≡ 0xBF ∷ []
+  pub read-e2-count-1-flag : readE2 0x07F 1 .status .errors .accessErr ≡ false
+  pub read-e2-count-2 : readE2 0x07F 2 .status .errors .accessErr ≡ true
+  pub read-e2-count-2-held : readE2 0x07F 2 .held ≡ []
   -- "Reload 3, prescaler 1: TimerIRq at clock 6, not 5."
   pub timer-not-at-5 : afterStart (timerRun 5) .status .requests .timer ≡ false
   pub timer-at-6 : afterStart (timerRun 6) .status .requests .timer ≡ true

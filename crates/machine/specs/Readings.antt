@@ -71,10 +71,9 @@ pub record Readings : Type 0 where
   -- "Each 2^prescaler clocks make one timer step": reload 2, prescaler 3, so 16 clocks
   pub prescaler-3-not-at-15 : afterStart (prescaler3 15) .status .requests .timer ≡ false
   pub prescaler-3-at-16 : afterStart (prescaler3 16) .status .requests .timer ≡ true
-  -- ReadE2 answers the memory's bytes, and LoadConfig loads them: 011h and 012h are shipped as 58h and 3Fh, and 061h is 0 in the image
+  -- ReadE2 answers the memory's bytes, and a start loads them: 011h and 012h are shipped as 58h and 3Fh
   pub read-e2-bytes : afterStart (command 0x03 (0x11 ∷ 0x00 ∷ 2 ∷ [])) .held ≡ 0x58 ∷ 0x3F ∷ []
   pub start-loads : registerAt (afterStart []) 0x11 ≡ 0x58
-  pub load-config-loads : registerAt (afterStart (command 0x07 (0x60 ∷ 0x00 ∷ []))) 0x11 ≡ 0x00
   -- a frame is sent with its CRC, "low byte first", and without it where TxLastBits are not 0
   pub frame-with-crc : take 4 (taken (sends 0) .buffer) ≡ 0x12 ∷ 0x34 ∷ 0x26 ∷ 0xCF ∷ []
   pub frame-answer : taken (sends 0) .answer ≡ frame 4 0

@@ -1,3 +1,4 @@
 -- The single-clock rule.
 pub mod Laws
 pub mod Rule
+pub mod Calls

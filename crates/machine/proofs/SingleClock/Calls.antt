@@ -3,26 +3,30 @@
 use Prim.Native.Nat.{ℕ, zero, suc, _+_, _<_, _≤_}
 use native.Mathlib.Omega.{arith}
 use mathlib.Core.Path.{_≡_, sym, ap, _∙_, subst}
+use mathlib.Core.Bool.{Bool, false}
 use mathlib.Core.List.{[]}
 use lib.ListN.{replicate}
 use borrow.Author.Tests.{le-ltb, lt-ltb}
 use Rattle.machine.specs.State.{Machine}
-use Rattle.machine.specs.WellFormed.{wellFormed}
 use Rattle.machine.specs.WellFormedness.{Formed}
-use Rattle.machine.specs.Refusals.{advance, clockLimit, refusal}
+use Rattle.machine.specs.Refusals.{advance, clockLimit, refuseIf, refusal}
 use Rattle.machine.specs.Events.{Outcome, advanced, refused, done, perform, afterCalls}
 use Rattle.machine.specs.SingleClock.{SingleClockCalls}
-use Rattle.machine.proofs.Performing.{as-accepted}
+use Rattle.machine.proofs.Performing.{as-accepted, as-refused}
 use Rattle.machine.proofs.WellFormed.Kept.{well-formedness}
 use Rattle.machine.proofs.SingleClock.Rule.{single-clock-rule}
 
+-- A test that does not hold refuses nothing.
+not-refused : (t : Bool) (n : ℕ) → t ≡ false → refuseIf t n 0 ≡ 0
+not-refused t n h = ap (λ (u : Bool). refuseIf u n 0) h
+
 within-limit : (n : ℕ) (m : Machine) → Formed m → n ≤ clockLimit → perform m (advance n) ≡ record { answer = done; next = advanced n m; buffer = [] }
 unfolding refusal
-within-limit n m f few = as-accepted m (advance n) (rw (f .well, le-ltb clockLimit n few))
+within-limit n m f few = as-accepted m (advance n) (rw (f .well) (not-refused _ _ (le-ltb clockLimit n few)))
 
 above-limit : (n : ℕ) (m : Machine) → Formed m → clockLimit < n → perform m (advance n) ≡ record { answer = refused 3; next = m; buffer = [] }
-unfolding perform refusal
-above-limit n m f many = rw (f .well, lt-ltb clockLimit n many)
+unfolding refusal
+above-limit n m f many = as-refused m (advance n) 2 (rw (f .well) (ap (λ (t : Bool). refuseIf t 3 0) (lt-ltb clockLimit n many)))
 
 -- The machine that an accepted advance leaves.
 next : (n : ℕ) (m : Machine) → Formed m → n ≤ clockLimit → perform m (advance n) .next ≡ advanced n m

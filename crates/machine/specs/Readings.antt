@@ -1,6 +1,7 @@
--- Document 01, "Readings that look right and aren't", each by an example of the right reading; and examples that a made-up chip does not meet.
+-- Document 01, "Readings that look right and aren't", each by an example of the right reading; examples that a made-up chip does not meet; and
+-- the programming time of every batch, which no example can say.
 -- Assumes nothing.
-use Prim.Native.Nat.{ℕ, _*_}
+use Prim.Native.Nat.{ℕ, _-_, _*_, _<_, _≤_}
 use mathlib.Core.Bool.{true, false}
 use mathlib.Core.List.{List, [], _∷_, _++_, map}
 use mathlib.Core.Path.{_≡_}
@@ -8,6 +9,7 @@ use lib.ListN.{length, take, replicate, set}
 use Rattle.machine.specs.State.{Machine, Idle, WriteE2, programming, withCommand, withHeld}
 use Rattle.machine.specs.Fifo.{registerAt, firstOf}
 use Rattle.machine.specs.Memory.{programmingClocks}
+use Rattle.machine.specs.Commands.{programs}
 use Rattle.machine.specs.Refusals.{Call, hostRead, hostWrite, advance, takeFrame, deliver}
 use Rattle.machine.specs.Events.{Outcome, started, perform, afterCalls, byte, frame, clock}
 use Rattle.profile.specs.Shipped.{shippedImage}
@@ -87,3 +89,23 @@ pub record Readings : Type 0 where
   pub crc-wrong-dropped : receives (0x12 ∷ 0x34 ∷ 0xCF ∷ 0x26 ∷ []) (1 ∷ 0 ∷ 1 ∷ 0 ∷ []) .held ≡ 0x12 ∷ 0x34 ∷ []
   pub short-frame : receives (0x12 ∷ []) (1 ∷ []) .status .errors .crcErr ≡ true
   pub short-frame-passes : receives (0x12 ∷ []) (1 ∷ []) .held ≡ 0x12 ∷ []
+
+-- The 78,648 clocks of a programming, of every machine and at every address: all of them are left when a batch is latched, each clock takes
+-- one, and nothing that the host writes takes or adds any.
+pub record ProgrammingTime : Type 0 where
+  -- a host write latches the batch
+  pub write-begins :
+      (m : Machine) (address v a left : ℕ) (bs : List ℕ) → programs (m .command) ≡ false →
+      perform m (hostWrite address v) .next .command ≡ WriteE2 (programming a bs left) → left ≡ programmingClocks
+  -- the last clock of the batch before latches it
+  pub clock-begins :
+      (m : Machine) (a left b left′ : ℕ) (bs cs : List ℕ) → m .command ≡ WriteE2 (programming a bs left) → left ≤ 1 →
+      clock m .command ≡ WriteE2 (programming b cs left′) → left′ ≡ programmingClocks
+  -- a clock before the last
+  pub one-fewer :
+      (m : Machine) (a left : ℕ) (bs : List ℕ) → m .command ≡ WriteE2 (programming a bs left) → 1 < left →
+      clock m .command ≡ WriteE2 (programming a bs (left - 1))
+  -- a host write meanwhile
+  pub write-leaves :
+      (m : Machine) (address v a left : ℕ) (bs : List ℕ) → m .command ≡ WriteE2 (programming a bs left) →
+      perform m (hostWrite address v) .next .command ≡ WriteE2 (programming a bs left)

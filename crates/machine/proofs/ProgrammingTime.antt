@@ -1,6 +1,6 @@
 -- Every programming takes its clocks: where a host write or a clock latches a batch, all are left, and nothing but a clock takes one.
 -- Assumes nothing.
-use Prim.Native.Nat.{ℕ, _+_, _-_, _%_, _^_, _<_, _≤_}
+use Prim.Native.Nat.{ℕ, _-_, _%_, _<_, _≤_}
 use mathlib.Core.Path.{_≡_, refl, sym, ap, _∙_, subst}
 use mathlib.Core.Bool.{Bool, true, false, cond, _&&_, true≢false}
 use mathlib.Core.List.{List}
@@ -113,15 +113,6 @@ write-begins m address v a left bs idle is =
     let by-command : WholeNow (commandWritten v m) = either WholeNow (programs (m .command)) _ _ before (started-whole (v % 64) (clearedErrors m)) in
     let after = settled-whole _ (register-keeps Whole (mapped (m .page) address) v m before by-command) in
     whole-clocks a left bs (subst Whole is (write-keeps Whole address v m before after))
-
--- The command that runs while a clock passes, of whatever timer.
-timer-keeps : (m : Machine) → timerClock m .command ≡ m .command
-unfolding timerClock
-timer-keeps m =
-    let Same : Machine → Type 0 = λ (x : Machine). x .command ≡ m .command in
-    either Same (m .timer .running) _ m
-    (either Same (ltb (m .timer .phase + 1) (2 ^ (m .timer .prescaler))) _ _ refl (either Same (ltb 1 (m .timer .value)) _ _ refl refl))
-    refl
 
 one-fewer : (m : Machine) (a left : ℕ) (bs : List ℕ) → m .command ≡ WriteE2 (programming a bs left) → 1 < left → clock m .command ≡ WriteE2 (programming a bs (left - 1))
 unfolding clock

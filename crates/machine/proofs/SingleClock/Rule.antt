@@ -27,6 +27,11 @@ hi-falls n m off =
     let calm : Calm false false m (clocks n m) (clocks n (raising false false m)) = clocks-calm false false n m in
     rw (calm .registers-stand) (lt-leb (64 - length (clocks n m .held)) (waterLevel m) (omega (arith, leb-false (64 - length (m .held)) (waterLevel m) off)))
 
+-- One clock, and the flags from before it on.
+one : (m : Machine) → advanced 1 m ≡ alerted m (clock m)
+unfolding advanced clocks
+one m = refl
+
 -- No flag turns where nothing happens.
 none : (m : Machine) → advanced 0 m ≡ m
 unfolding advanced clocks alerted
@@ -68,11 +73,10 @@ singles (suc n) m =
 
 -- The rule, field by field.
 pub single-clock-rule : SingleClockRule
-unfolding advanced clocks
 single-clock-rule =
     record {
       none = none;
-      one = λ m. refl;
+      one = one;
       sums = sums;
       singles = singles;
       held-falls = λ n m. clocks-calm false false n m .held-falls;

@@ -57,6 +57,7 @@ test: proved $(BUILD)/lock $(BUILD)/profile_check $(BUILD)/libcrc_exports.a
 	tests/profile_check $(BUILD)/profile_check
 	tests/firmware $(BUILD)
 	tests/differential/run $(CALLS)
+	tests/impostors
 	tests/instructions --check docs/PERFORMANCE.md
 	rt ci
 

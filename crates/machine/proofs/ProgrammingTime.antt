@@ -16,7 +16,7 @@ use Rattle.machine.specs.Commands.{programs, withAccessErr, ended, enoug
 use Rattle.machine.specs.Registers.{mapped, controlWritten, registerWritten}
 use Rattle.machine.specs.Refusals.{hostWrite, refusal}
 use Rattle.machine.specs.Events.{Outcome, written, perform, batchStored, programmed, commandClocked, clock}
-use Rattle.machine.specs.Readings.{ProgrammingTime}
+use Rattle.machine.specs.ProgrammingTime.{ProgrammingTime}
 use Rattle.machine.proofs.WellFormed.Parts.{either}
 
 -- No programming runs, or one that has all its clocks left.

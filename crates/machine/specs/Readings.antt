@@ -1,15 +1,13 @@
--- Document 01, "Readings that look right and aren't", each by an example of the right reading; examples that a made-up chip does not meet; and
--- the programming time of every batch, which no example can say.
+-- Document 01, "Readings that look right and aren't", each by an example of the right reading; and examples that a made-up chip does not meet.
 -- Assumes nothing.
-use Prim.Native.Nat.{ℕ, _-_, _*_, _<_, _≤_}
+use Prim.Native.Nat.{ℕ, _*_}
 use mathlib.Core.Bool.{true, false}
 use mathlib.Core.List.{List, [], _∷_, _++_, map}
 use mathlib.Core.Path.{_≡_}
 use lib.ListN.{length, take, replicate, set}
-use Rattle.machine.specs.State.{Machine, Idle, WriteE2, programming, withCommand, withHeld}
+use Rattle.machine.specs.State.{Machine, Idle, WriteE2, programming, withCommand, withHeld, fiveFlags}
 use Rattle.machine.specs.Fifo.{registerAt, firstOf}
 use Rattle.machine.specs.Memory.{programmingClocks}
-use Rattle.machine.specs.Commands.{programs}
 use Rattle.machine.specs.Refusals.{Call, hostRead, hostWrite, advance, takeFrame, deliver}
 use Rattle.machine.specs.Events.{Outcome, started, perform, afterCalls, byte, frame, clock}
 use Rattle.profile.specs.Shipped.{shippedImage}
@@ -67,9 +65,12 @@ pub record Readings : Type 0 where
   pub programming-time : 10 * programmingClocks ≡ 58 * 13_560
   pub programming-begins : afterStart (command 0x01 (0x6C ∷ 0x01 ∷ 0xAA ∷ [])) .command ≡ WriteE2 (programming 0x16C (0xAA ∷ []) 78_648)
   -- bytes that wait when WriteE2 is written are its address and its data at once
-  pub waiting-bytes-begin : afterStart (hostWrite 0x02 0x6C ∷ hostWrite 0x02 0x01 ∷ hostWrite 0x02 0xAA ∷ hostWrite 0x01 0x01 ∷ []) .command ≡ WriteE2 (programming 0x16C (0xAA ∷ []) 78_648)
+  pub waiting-bytes-begin :
+      afterStart (hostWrite 0x02 0x6C ∷ hostWrite 0x02 0x01 ∷ hostWrite 0x02 0xAA ∷ hostWrite 0x01 0x01 ∷ []) .command
+      ≡ WriteE2 (programming 0x16C (0xAA ∷ []) 78_648)
   -- one clock of two
-  pub programming-goes-on : clock (withCommand (WriteE2 (programming 0x16C (0xAA ∷ []) 2)) (started shippedImage)) .command ≡ WriteE2 (programming 0x16C (0xAA ∷ []) 1)
+  pub programming-goes-on :
+      clock (withCommand (WriteE2 (programming 0x16C (0xAA ∷ []) 2)) (started shippedImage)) .command ≡ WriteE2 (programming 0x16C (0xAA ∷ []) 1)
   -- "Each 2^prescaler clocks make one timer step": reload 2, prescaler 3, so 16 clocks
   pub prescaler-3-not-at-15 : afterStart (prescaler3 15) .status .requests .timer ≡ false
   pub prescaler-3-at-16 : afterStart (prescaler3 16) .status .requests .timer ≡ true
@@ -82,30 +83,10 @@ pub record Readings : Type 0 where
   pub frame-of-last-bits : taken (sends 7) .answer ≡ frame 2 7
   -- the same frame is received: the CRC is dropped, and odd parity holds of 12 (two ones, 1), 34 (three, 0), 26 (three, 0) and CF (six, 1)
   pub frame-received : receives (0x12 ∷ 0x34 ∷ 0x26 ∷ 0xCF ∷ []) (1 ∷ 0 ∷ 0 ∷ 1 ∷ []) .held ≡ 0x12 ∷ 0x34 ∷ []
-  pub frame-errors : receives (0x12 ∷ 0x34 ∷ 0x26 ∷ 0xCF ∷ []) (1 ∷ 0 ∷ 0 ∷ 1 ∷ []) .status .errors ≡ record { keyErr = true; accessErr = false; fifoOvfl = false; crcErr = false; parityErr = false }
+  pub frame-errors : receives (0x12 ∷ 0x34 ∷ 0x26 ∷ 0xCF ∷ []) (1 ∷ 0 ∷ 0 ∷ 1 ∷ []) .status .errors ≡ fiveFlags true false false false false
   -- a wrong parity bit; a CRC high byte first, dropped all the same; a frame shorter than its CRC, which passes whole
   pub parity-wrong : receives (0x12 ∷ 0x34 ∷ 0x26 ∷ 0xCF ∷ []) (0 ∷ 0 ∷ 0 ∷ 1 ∷ []) .status .errors .parityErr ≡ true
   pub crc-wrong : receives (0x12 ∷ 0x34 ∷ 0xCF ∷ 0x26 ∷ []) (1 ∷ 0 ∷ 1 ∷ 0 ∷ []) .status .errors .crcErr ≡ true
   pub crc-wrong-dropped : receives (0x12 ∷ 0x34 ∷ 0xCF ∷ 0x26 ∷ []) (1 ∷ 0 ∷ 1 ∷ 0 ∷ []) .held ≡ 0x12 ∷ 0x34 ∷ []
   pub short-frame : receives (0x12 ∷ []) (1 ∷ []) .status .errors .crcErr ≡ true
   pub short-frame-passes : receives (0x12 ∷ []) (1 ∷ []) .held ≡ 0x12 ∷ []
-
--- The 78,648 clocks of a programming, of every machine and at every address: all of them are left when a batch is latched, each clock takes
--- one, and nothing that the host writes takes or adds any.
-pub record ProgrammingTime : Type 0 where
-  -- a host write latches the batch
-  pub write-begins :
-      (m : Machine) (address v a left : ℕ) (bs : List ℕ) → programs (m .command) ≡ false →
-      perform m (hostWrite address v) .next .command ≡ WriteE2 (programming a bs left) → left ≡ programmingClocks
-  -- the last clock of the batch before latches it
-  pub clock-begins :
-      (m : Machine) (a left b left′ : ℕ) (bs cs : List ℕ) → m .command ≡ WriteE2 (programming a bs left) → left ≤ 1 →
-      clock m .command ≡ WriteE2 (programming b cs left′) → left′ ≡ programmingClocks
-  -- a clock before the last
-  pub one-fewer :
-      (m : Machine) (a left : ℕ) (bs : List ℕ) → m .command ≡ WriteE2 (programming a bs left) → 1 < left →
-      clock m .command ≡ WriteE2 (programming a bs (left - 1))
-  -- a host write meanwhile
-  pub write-leaves :
-      (m : Machine) (address v a left : ℕ) (bs : List ℕ) → m .command ≡ WriteE2 (programming a bs left) →
-      perform m (hostWrite address v) .next .command ≡ WriteE2 (programming a bs left)

@@ -59,6 +59,7 @@ test: proved $(BUILD)/lock $(BUILD)/profile_check $(BUILD)/libcrc_exports.a
 	tests/differential/run $(CALLS)
 	tests/impostors
 	tests/instructions --check docs/PERFORMANCE.md
+	tests/contracts_bound
 	rt ci
 
 # The same library with a second exported caller of the events, for a look at what that costs.

@@ -20,7 +20,7 @@ use Rattle.state.specs.View.{view}
 use Rattle.state.specs.Formed.{chipFormed}
 use Rattle.state.specs.Meets.{coded, chipRefusal, Meets}
 use Rattle.state.specs.declared.Chip.{Chip}
-use Rattle.runs.specs.Run.{Step, callsOf, Called, in-place, by-start, by-host-read, by-host-write, by-advance, by-take, by-deliver, Run, end, next, AsDefined, Kept, ProgramDemand3}
+use Rattle.runs.specs.Run.{Step, callsOf, Called, start-in-place, read-in-place, write-in-place, advance-in-place, take-in-place, deliver-in-place, start-by-value, read-by-value, write-by-value, advance-by-value, take-by-value, deliver-by-value, Run, end, next, AsDefined, Kept, ProgramDemand3}
 
 -- A well-formed chip is refused as its machine is.
 refused-alike : (c : Chip) (call : Call) → chipFormed c ≡ true → chipRefusal c call ≡ refusal (view c) call
@@ -64,13 +64,18 @@ performed {c} {d} {call} {answer} {buffer} meets formed = go (refusal (view c) c
 
 -- What each function's contract promises is the one relation.
 called-meets : {c d : Chip} {s : Step} → Called c s d → Meets c (s .call) d (s .answer) (s .buffer)
-called-meets (in-place promise) = promise
-called-meets (by-start κs image r promise) = promise
-called-meets (by-host-read address r promise) = promise
-called-meets (by-host-write address v r promise) = promise
-called-meets (by-advance clocks r promise) = promise
-called-meets (by-take κs buffer after r promise) = promise
-called-meets (by-deliver κs bytes parities last r promise) = promise
+called-meets (start-in-place κs chip chip′ image r promise) = promise
+called-meets (read-in-place κs chip chip′ address r promise) = promise
+called-meets (write-in-place κs chip chip′ address v r promise) = promise
+called-meets (advance-in-place κs chip chip′ clocks r promise) = promise
+called-meets (take-in-place κs chip chip′ buffer buffer′ r promise) = promise
+called-meets (deliver-in-place κs chip chip′ bytes parities lastBits r promise) = promise
+called-meets (start-by-value κs chip image r promise) = promise
+called-meets (read-by-value chip address r promise) = promise
+called-meets (write-by-value chip address v r promise) = promise
+called-meets (advance-by-value chip clocks r promise) = promise
+called-meets (take-by-value κs chip buffer buffer′ r promise) = promise
+called-meets (deliver-by-value κs chip bytes parities lastBits r promise) = promise
 
 -- After a run.
 record Ran (s : Both) (steps : List Step) (z : Chip) : Type 0 where

@@ -12,15 +12,10 @@ use Rattle.journal.specs.Journal.{Both, called, after}
 use Rattle.journal.specs.Demand.{run, Conserved, NextCall}
 use Rattle.state.specs.View.{view}
 use Rattle.state.specs.Formed.{chipFormed}
-use Rattle.state.specs.Meets.{coded, Meets}
+use Rattle.state.specs.Meets.{coded}
 use Rattle.state.specs.declared.Chip.{Chip}
 use Rattle.by_value.specs.declared.Outcome.{Outcome}
-use Rattle.by_value.proofs.start.Reads as start-ensures
-use Rattle.by_value.proofs.host_read.Reads as host-read-ensures
-use Rattle.by_value.proofs.host_write.Reads as host-write-ensures
-use Rattle.by_value.proofs.advance.Reads as advance-ensures
-use Rattle.by_value.proofs.take.Reads as take-ensures
-use Rattle.by_value.proofs.deliver.Reads as deliver-ensures
+use Rattle.runs.specs.Contracts as contracts
 use denote.Ref.{RefT, now}
 use contract.Lifetimes.{Lfts}
 
@@ -33,18 +28,38 @@ pub record Step : Type 0 where
 abbrev pub callsOf : List Step → List Call
 callsOf steps = map (λ (s : Step). s .call) steps
 
--- One call, from a chip to the next, in either form. By value: the promise of the function of the crate by_value, of these arguments and this
--- result; `Post` is generated from its contract, of the lifetimes, the arguments, the result, and the arguments at exit. In place: the
--- contract of every entry point of the crate bench is `Meets` of the chip lent, at entry and at exit.
+abbrev pub step : Call → ℕ → List ℕ → Step
+step call answer buffer = record { call = call; answer = answer; buffer = buffer }
+
+-- One call, from a chip to the next: for each of the twelve functions what its own contract promises, of these arguments, this result, and the arguments at
+-- exit. In place the chip is that lent, at entry and at exit; by value the next chip is in the result.
 pub data Called : Chip → Step → Chip → Type 0 where
-  in-place : {c d : Chip} {s : Step} → Meets c (s .call) d (s .answer) (s .buffer) → Called c s d
-  by-start : (κs : Lfts 1) {c : Chip} (image : RefT (List ℕ)) (r : Outcome) → start-ensures.Post κs (c, (image, tt)) r (c, (image, tt)) → Called c (record { call = start (now image); answer = r .answer; buffer = [] }) (r .chip)
-  by-host-read : {c : Chip} (address : ℕ) (r : Outcome) → host-read-ensures.Post tt (c, (address, tt)) r (c, (address, tt)) → Called c (record { call = hostRead address; answer = r .answer; buffer = [] }) (r .chip)
-  by-host-write : {c : Chip} (address v : ℕ) (r : Outcome) → host-write-ensures.Post tt (c, (address, (v, tt))) r (c, (address, (v, tt))) → Called c (record { call = hostWrite address v; answer = r .answer; buffer = [] }) (r .chip)
-  by-advance : {c : Chip} (clocks : ℕ) (r : Outcome) → advance-ensures.Post tt (c, (clocks, tt)) r (c, (clocks, tt)) → Called c (record { call = advance clocks; answer = r .answer; buffer = [] }) (r .chip)
-  by-take : (κs : Lfts 1) {c : Chip} (buffer after : RefT (List ℕ)) (r : Outcome) → take-ensures.Post κs (c, (buffer, tt)) r (c, (after, tt)) → Called c (record { call = takeFrame (now buffer); answer = r .answer; buffer = now after }) (r .chip)
-  by-deliver : (κs : Lfts 2) {c : Chip} (bytes parities : RefT (List ℕ)) (last : ℕ) (r : Outcome) → deliver-ensures.Post κs (c, (bytes, (parities, (last, tt)))) r (c, (bytes, (parities, (last, tt)))) →
-      Called c (record { call = deliver (now bytes) (now parities) last; answer = r .answer; buffer = [] }) (r .chip)
+  start-in-place : (κs : Lfts 2) (chip chip′ : RefT Chip) (image : RefT (List ℕ)) (r : ℕ) →
+      contracts.start-in-place .Promise κs (chip, (image, tt)) r (chip′, (image, tt)) → Called (now chip) (step (start (now image)) r []) (now chip′)
+  read-in-place : (κs : Lfts 1) (chip chip′ : RefT Chip) (address r : ℕ) →
+      contracts.read-in-place .Promise κs (chip, (address, tt)) r (chip′, (address, tt)) → Called (now chip) (step (hostRead address) r []) (now chip′)
+  write-in-place : (κs : Lfts 1) (chip chip′ : RefT Chip) (address v r : ℕ) →
+      contracts.write-in-place .Promise κs (chip, (address, (v, tt))) r (chip′, (address, (v, tt))) → Called (now chip) (step (hostWrite address v) r []) (now chip′)
+  advance-in-place : (κs : Lfts 1) (chip chip′ : RefT Chip) (clocks r : ℕ) →
+      contracts.advance-in-place .Promise κs (chip, (clocks, tt)) r (chip′, (clocks, tt)) → Called (now chip) (step (advance clocks) r []) (now chip′)
+  take-in-place : (κs : Lfts 2) (chip chip′ : RefT Chip) (buffer buffer′ : RefT (List ℕ)) (r : ℕ) →
+      contracts.take-in-place .Promise κs (chip, (buffer, tt)) r (chip′, (buffer′, tt)) → Called (now chip) (step (takeFrame (now buffer)) r (now buffer′)) (now chip′)
+  deliver-in-place : (κs : Lfts 3) (chip chip′ : RefT Chip) (bytes parities : RefT (List ℕ)) (lastBits r : ℕ) →
+      contracts.deliver-in-place .Promise κs (chip, (bytes, (parities, (lastBits, tt)))) r (chip′, (bytes, (parities, (lastBits, tt)))) →
+      Called (now chip) (step (deliver (now bytes) (now parities) lastBits) r []) (now chip′)
+  start-by-value : (κs : Lfts 1) (chip : Chip) (image : RefT (List ℕ)) (r : Outcome) →
+      contracts.start-by-value .Promise κs (chip, (image, tt)) r (chip, (image, tt)) → Called chip (step (start (now image)) (r .answer) []) (r .chip)
+  read-by-value : (chip : Chip) (address : ℕ) (r : Outcome) →
+      contracts.read-by-value .Promise tt (chip, (address, tt)) r (chip, (address, tt)) → Called chip (step (hostRead address) (r .answer) []) (r .chip)
+  write-by-value : (chip : Chip) (address v : ℕ) (r : Outcome) →
+      contracts.write-by-value .Promise tt (chip, (address, (v, tt))) r (chip, (address, (v, tt))) → Called chip (step (hostWrite address v) (r .answer) []) (r .chip)
+  advance-by-value : (chip : Chip) (clocks : ℕ) (r : Outcome) →
+      contracts.advance-by-value .Promise tt (chip, (clocks, tt)) r (chip, (clocks, tt)) → Called chip (step (advance clocks) (r .answer) []) (r .chip)
+  take-by-value : (κs : Lfts 1) (chip : Chip) (buffer buffer′ : RefT (List ℕ)) (r : Outcome) →
+      contracts.take-by-value .Promise κs (chip, (buffer, tt)) r (chip, (buffer′, tt)) → Called chip (step (takeFrame (now buffer)) (r .answer) (now buffer′)) (r .chip)
+  deliver-by-value : (κs : Lfts 2) (chip : Chip) (bytes parities : RefT (List ℕ)) (lastBits : ℕ) (r : Outcome) →
+      contracts.deliver-by-value .Promise κs (chip, (bytes, (parities, (lastBits, tt)))) r (chip, (bytes, (parities, (lastBits, tt)))) →
+      Called chip (step (deliver (now bytes) (now parities) lastBits) (r .answer) []) (r .chip)
 
 -- A run from one chip to another.
 pub data Run : Chip → List Step → Chip → Type 0 where

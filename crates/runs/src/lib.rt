@@ -1,1 +1,1 @@
-// Demand 3 over the program: any run of calls whose results meet the events' relation, in either form. Nothing here runs.
+// Demand 3 over the program: any run of calls of the twelve functions, in place or by value, each as its own contract promises. Nothing here runs.

@@ -206,7 +206,7 @@ module _ (image : List ℕ) where
   placed a [] = []
   placed a (b ∷ bs) = e.toMemory a b ∷ placed (a + 1) bs
 
-  memories : (n : ℕ) (es : List Entry) (h : List ℕ) (base count : ℕ) → n ≤ length h →
+  pub memories : (n : ℕ) (es : List Entry) (h : List ℕ) (base count : ℕ) → n ≤ length h →
       leaveAllAs (replicate n memory) (journalOf es h base count) ≡ journalOf (es ++ placed (base + count) (take n h)) (drop n h) base (count + n)
   unfolding leaveAllAs leaveAs leave placed
   memories zero es h base count fits =
@@ -309,7 +309,7 @@ module _ (image : List ℕ) where
   stored-batch [] eeprom a = refl
   stored-batch (b ∷ bs) eeprom a = stored-batch bs (set eeprom a b) (a + 1)
 
-  stored-parts : (xs ys : List Byte) (cells : List ℕ) → storedBytes cells (xs ++ ys) ≡ storedBytes (storedBytes cells xs) ys
+  pub stored-parts : (xs ys : List Byte) (cells : List ℕ) → storedBytes cells (xs ++ ys) ≡ storedBytes (storedBytes cells xs) ys
   unfolding storedBytes
   stored-parts [] ys cells = refl
   stored-parts (x ∷ xs) ys cells = stored-parts xs ys (set cells (x .address) (x .value))

@@ -30,7 +30,7 @@ use Rattle.journal.proofs.Steps.{offered-idle, settle-agrees}
 use Rattle.journal.proofs.Timer.{timer-any, timer-command}
 
 -- A command that does not program has no latched bytes.
-idle-latch : (c : Command) → programs c ≡ false → waiting c ≡ []
+pub idle-latch : (c : Command) → programs c ≡ false → waiting c ≡ []
 idle-latch c p = while-programming (λ (bs : List Byte). bs ≡ []) (λ a bs left. batch a bs) [] c (λ a bs left is. absurd (true≢false (sym (ap programs is) ∙ p))) refl
 
 rest-drop : (h : List ℕ) → drop 1 h ≡ restOf h
@@ -166,7 +166,7 @@ module _ (image : List ℕ) where
   written-agrees r v m n j a = settle-agrees image (registerWritten r v m) (enterRegister r v m j) (register-agrees r v m j a)
 
   -- The timer moves no byte.
-  timer-agrees : (m : Machine) (j : Journal) → AgreesWith image m j → AgreesWith image (timerClock m) j
+  pub timer-agrees : (m : Machine) (j : Journal) → AgreesWith image m j → AgreesWith image (timerClock m) j
   timer-agrees m j a = timer-any (λ n. AgreesWith image n j) m a (λ t. a) (λ t. a)
 
   -- A programming ends.
@@ -267,7 +267,7 @@ module _ (image : List ℕ) where
   sent-agrees m n j s a = sent-as (m .command) m j refl s a
 
   -- A delivery.
-  receiving-latch : (c : Command) → receiving c ≡ true → waiting c ≡ []
+  pub receiving-latch : (c : Command) → receiving c ≡ true → waiting c ≡ []
   receiving-latch Idle s = refl
   receiving-latch (WriteE2 w) s = absurd (false≢true s)
   receiving-latch ReadE2 s = refl

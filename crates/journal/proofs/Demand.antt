@@ -24,20 +24,20 @@ use Rattle.machine.proofs.WellFormed.Parts.{each}
 use Rattle.journal.specs.Entries as e
 use Rattle.journal.specs.Entries.{collect, keyBytes}
 use Rattle.journal.specs.Journal.{Journal, enterAccepted, enter, leaveFrom, leave, Both}
-use Rattle.journal.specs.Demand.{run, checksumShown, ReadAnswers, NextCall, Demand3}
+use Rattle.journal.specs.Demand.{run, checksumShown, ReadOf, ReadAnswers, NextCall, Demand3}
 use Rattle.journal.proofs.Agreement.{Agrees, AgreesWith, PlaceIs}
 use Rattle.journal.proofs.Run.{run-agrees, conserved}
 use Rattle.journal.proofs.Keys.{Keyless, Judged, nothing, twelve, KeyCall, key-none, offers-keyless, leave-keyless, all-keyless, clocks-keyless, written-keys}
 use Rattle.journal.proofs.Programming.{stored-at, pending, finishes}
 
-command-formed : (m : Machine) → wellFormed m ≡ true → commandFormed (m .command) ≡ true
+pub command-formed : (m : Machine) → wellFormed m ≡ true → commandFormed (m .command) ≡ true
 unfolding wellFormed
 command-formed m h =
     let (fifo, h₁) = each (fifoFormed (m .held)) _ h in
     let (timed, h₂) = each (timerFormed (m .timer)) _ h₁ in each (commandFormed (m .command)) _ h₂ .0
 
 -- A programming of a well-formed machine has a clock left.
-clocks-left : (s left : ℕ) (bs : List ℕ) → commandFormed (WriteE2 (programming s bs left)) ≡ true → 1 ≤ left
+pub clocks-left : (s left : ℕ) (bs : List ℕ) → commandFormed (WriteE2 (programming s bs left)) ≡ true → 1 ≤ left
 clocks-left s left bs h =
     leb-true 1 left (each (leb 1 left) _ h .0)
 
@@ -73,9 +73,11 @@ module _ (image : List ℕ) where
     -- A read of a register whose byte is known.
     reads : (register b : ℕ) → registerRead register m ≡ b → ReadAnswers m register b
     unfolding readByte
-    reads register b is address ok at =
-        ap (λ (o : Outcome). o .answer) (as-accepted m (hostRead address) ok)
-        ∙ ap (λ (r : ℕ). byte (registerRead r m)) at
+    reads register b is c r =
+        let ok = subst (λ (x : Call). refusal m x ≡ 0) (r .is-read) (r .not-refused) in
+        ap (λ (x : Call). perform m x .answer) (r .is-read)
+        ∙ ap (λ (o : Outcome). o .answer) (as-accepted m (hostRead (r .address)) ok)
+        ∙ ap (λ (z : ℕ). byte (registerRead z m)) (r .at-register)
         ∙ ap byte is
 
     shown : crcResult m ≡ checksumShown j
@@ -147,7 +149,7 @@ module _ (image : List ℕ) where
         let same : called .bytes ≡ keys = append-cancel-left (collect keyBytes (j .entries)) (called .bytes) keys (sym (called .entered-keys) ∙ added) in
         judged-twelve _ _ keys ks k some (subst (Judged (perform m c .next .key) (perform m c .next .status .errors .keyErr)) same (called .judged))
 
-  next-call : (s : Both) → AgreesWith image (s .machine) (s .journal) → NextCall s
+  pub next-call : (s : Both) → AgreesWith image (s .machine) (s .journal) → NextCall s
   next-call s a =
       record {
         host-read-answer = host-read-answer (s .machine) (s .journal) a;

@@ -8,3 +8,5 @@ pub mod Run
 pub mod Keys
 pub mod Programming
 pub mod Demand
+pub mod Entered
+pub mod Account

@@ -39,7 +39,7 @@ stored-at (b ∷ bs) eeprom a (suc i) fits h =
     ∙ stored-at bs (set eeprom a b) (a + 1) i (omega (arith, length-set eeprom a b)) (le-of-suc-le-suc h)
 
 -- A command that does not program stands while clocks come.
-plain-clocked : (c : Command) (n : Machine) → programs c ≡ false → commandClocked c n ≡ n
+pub plain-clocked : (c : Command) (n : Machine) → programs c ≡ false → commandClocked c n ≡ n
 plain-clocked c n p =
     while-programming (λ (f : Machine → Machine). f n ≡ n) programmingClocked (λ m. m) c (λ a bs left is. absurd (true≢false (sym (ap programs is) ∙ p))) refl
 
@@ -52,13 +52,13 @@ plain-stands (suc n) m p =
 
 -- One clock of a programming that goes on, and of one that ends.
 module _ (m : Machine) (a left : ℕ) (bs : List ℕ) (is : m .command ≡ WriteE2 (programming a bs left)) where
-  goes-on : 1 < left → clock m ≡ withCommand (WriteE2 (programming a bs (left - 1))) (timerClock m)
+  pub goes-on : 1 < left → clock m ≡ withCommand (WriteE2 (programming a bs (left - 1))) (timerClock m)
   unfolding clock
   goes-on more =
       ap (λ (c : Command). commandClocked c (timerClock m)) is
       ∙ ap (λ (t : Bool). cond t (programmed a bs (timerClock m)) (withCommand (WriteE2 (programming a bs (left - 1))) (timerClock m))) (lt-leb left 1 more)
 
-  ends : left ≤ 1 → clock m ≡ programmed a bs (timerClock m)
+  pub ends : left ≤ 1 → clock m ≡ programmed a bs (timerClock m)
   unfolding clock
   ends last =
       ap (λ (c : Command). commandClocked c (timerClock m)) is
@@ -76,7 +76,7 @@ pending (suc n) m a left bs is h =
     (waits ∙ ap (λ (k : ℕ). WriteE2 (programming a bs k)) less, stands ∙ ap (λ (x : Machine). x .eeprom) same ∙ timer-eeprom m)
 
 -- A command under which memory stands for less than one programming.
-data Resting : Command → Type 0 where
+pub data Resting : Command → Type 0 where
   plain : {c : Command} → programs c ≡ false → Resting c
   fresh : (a : ℕ) (bs : List ℕ) → Resting (WriteE2 (programming a bs programmingClocks))
 
@@ -88,8 +88,8 @@ rests n m h r = go (m .command) refl r
     go c is (fresh a bs) = pending n m a programmingClocks bs is h .1
 
 -- A WriteE2 with a known address rests after it has settled.
-record Rested (z n : Machine) : Type 0 where
-  resting : Resting (n .command)
+pub record Rested (z n : Machine) : Type 0 where
+  pub resting : Resting (n .command)
   memory : n .eeprom ≡ z .eeprom
   done : stepped n ≡ n
 
@@ -112,7 +112,7 @@ settled-rests : (z : Machine) (s : ℕ) → z .command ≡ WriteE2 (ready s) →
 unfolding settled
 settled-rests z s is = let r = step-rests z s is in subst (Rested z) (sym (r .done)) r
 
-programmed-rests : (a : ℕ) (bs : List ℕ) (m : Machine) → Rested (batchStored a bs m) (programmed a bs m)
+pub programmed-rests : (a : ℕ) (bs : List ℕ) (m : Machine) → Rested (batchStored a bs m) (programmed a bs m)
 unfolding stepped
 programmed-rests a bs m = go (eqb (length (m .held)) 0) refl
   where

@@ -27,7 +27,7 @@ use Rattle.journal.proofs.Agreement.{Agrees, AgreesWith}
 use Rattle.journal.proofs.Calls.{written-agrees, clocks-agree, read-agrees, sent-agrees, received-agrees, started-agrees}
 
 -- A test that refuses did not hold.
-or-first : (s t : Bool) → (s || t) ≡ false → s ≡ false
+pub or-first : (s t : Bool) → (s || t) ≡ false → s ≡ false
 or-first true t h = h
 or-first false t h = refl
 

@@ -20,7 +20,7 @@ use Rattle.journal.proofs.Moves.{Quietly}
 use Rattle.journal.proofs.Agreement.{Agrees, AgreesWith, quietly, either, offers-agree, uses-held, AllPlain, uses-quietly, absorbed-agrees, latched-agrees, commanded, rebased}
 
 -- All bytes up to a count beyond the end are all bytes.
-take-least : (r : ℕ) (h : List ℕ) → take (min r (length h)) h ≡ take r h
+pub take-least : (r : ℕ) (h : List ℕ) → take (min r (length h)) h ≡ take r h
 take-least r h = go (leb r (length h)) refl
   where
     go : (t : Bool) → leb r (length h) ≡ t → take (min r (length h)) h ≡ take r h

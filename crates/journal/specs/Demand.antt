@@ -62,10 +62,21 @@ pub record Conserved (image : List ℕ) (s : Both) : Type 0 where
   -- "each is at its memory address after the call that finishes its programming, unless a start comes first"
   pub memory-stored : MemoryIs (memoryFrom (record { image = image; bytes = [] }) (s .journal .entries)) (s .machine .command) (s .machine .eeprom)
 
--- A host read that is not refused, of a register by its address after mapping, answers this byte.
+-- A host read of a register, by its address after mapping, that is not refused.
+pub record ReadOf (m : Machine) (c : Call) (register : ℕ) : Type 0 where
+  pub address : ℕ
+  pub is-read : c ≡ hostRead address
+  pub not-refused : refusal m c ≡ 0
+  pub at-register : mapped (m .page) address ≡ register
+
+-- Such a read answers this byte.
 abbrev pub ReadAnswers : Machine → ℕ → ℕ → Type 0
-ReadAnswers m register b =
-    (address : ℕ) → refusal m (hostRead address) ≡ 0 → mapped (m .page) address ≡ register → perform m (hostRead address) .answer ≡ byte b
+ReadAnswers m register b = (c : Call) → ReadOf m c register → perform m c .answer ≡ byte b
+
+-- "KeyErr and key are judged from the twelve as they leave".
+abbrev pub KeyJudged : List ℕ → Machine → Type 0
+KeyJudged ks m =
+    (length ks ≡ 12) × (m .key ≡ record { loaded = formatHolds ks; bytes = judgedKey ks }) × (m .status .errors .keyErr ≡ not (formatHolds ks))
 
 -- What holds of every call that comes next.
 pub record NextCall (s : Both) : Type 0 where
@@ -91,12 +102,11 @@ pub record NextCall (s : Both) : Type 0 where
   pub programming-lasts :
       (n a left : ℕ) (bs : List ℕ) → s .machine .command ≡ WriteE2 (programming a bs left) → refusal (s .machine) (advance n) ≡ 0 → n < left →
       let m = perform (s .machine) (advance n) .next in (m .command ≡ WriteE2 (programming a bs (left - n))) × (m .eeprom ≡ s .machine .eeprom)
-  -- "KeyErr and key are judged from the twelve as they leave"
+  -- key bytes leave by twelve, which are judged
   pub key-judged :
       (c : Call) (twelve : List ℕ) (k : ℕ) (ks : List ℕ) → twelve ≡ k ∷ ks →
       collect keyBytes (enter c (s .machine) (s .journal) .entries) ≡ collect keyBytes (s .journal .entries) ++ twelve →
-      let m = perform (s .machine) c .next in
-      (length twelve ≡ 12) × (m .key ≡ record { loaded = formatHolds twelve; bytes = judgedKey twelve }) × (m .status .errors .keyErr ≡ not (formatHolds twelve))
+      KeyJudged twelve (perform (s .machine) c .next)
 
 -- Demand 3, whole.
 pub record Demand3 : Type 0 where

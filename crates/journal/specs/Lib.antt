@@ -1,3 +1,4 @@
 pub mod Entries
 pub mod Journal
 pub mod Demand
+pub mod Account

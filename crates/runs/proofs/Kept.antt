@@ -15,12 +15,16 @@ use Rattle.machine.proofs.Performing.{as-accepted}
 use Rattle.machine.proofs.WellFormed.Kept.{well-formedness}
 use Rattle.journal.specs.Journal.{Journal, Both, empty, called, after}
 use Rattle.journal.specs.Demand.{run, Conserved, NextCall}
+use Rattle.journal.specs.Account.{Accounted}
+use Rattle.journal.proofs.Agreement.{AgreesWith}
+use Rattle.journal.proofs.Run.{call-agrees, run-agrees}
 use Rattle.journal.proofs.Demand.{demand-3}
+use Rattle.journal.proofs.Account.{accounted}
 use Rattle.state.specs.View.{view}
 use Rattle.state.specs.Formed.{chipFormed}
 use Rattle.state.specs.Meets.{coded, chipRefusal, Meets}
 use Rattle.state.specs.declared.Chip.{Chip}
-use Rattle.runs.specs.Run.{Step, callsOf, Called, start-in-place, read-in-place, write-in-place, advance-in-place, take-in-place, deliver-in-place, start-by-value, read-by-value, write-by-value, advance-by-value, take-by-value, deliver-by-value, Run, end, next, AsDefined, Kept, ProgramDemand3}
+use Rattle.runs.specs.Run.{Step, callsOf, step, Called, start-in-place, read-in-place, write-in-place, advance-in-place, take-in-place, deliver-in-place, start-by-value, read-by-value, write-by-value, advance-by-value, take-by-value, deliver-by-value, Run, end, next, AsDefined, AllAccounted, Kept, ProgramDemand3}
 
 -- A well-formed chip is refused as its machine is.
 refused-alike : (c : Chip) (call : Call) → chipFormed c ≡ true → chipRefusal c call ≡ refusal (view c) call
@@ -63,7 +67,7 @@ performed {c} {d} {call} {answer} {buffer} meets formed = go (refusal (view c) c
         }
 
 -- What each function's contract promises is the one relation.
-called-meets : {c d : Chip} {s : Step} → Called c s d → Meets c (s .call) d (s .answer) (s .buffer)
+called-meets : {c : Chip} {s : Step} → Called c s → Meets c (s .call) (s .chip) (s .answer) (s .buffer)
 called-meets (start-in-place κs chip chip′ image r promise) = promise
 called-meets (read-in-place κs chip chip′ address r promise) = promise
 called-meets (write-in-place κs chip chip′ address v r promise) = promise
@@ -82,17 +86,28 @@ record Ran (s : Both) (steps : List Step) (z : Chip) : Type 0 where
   machine : view z ≡ after s (callsOf steps) .machine
   formed : chipFormed z ≡ true
   defined : AsDefined (s .machine) steps
+  accounts : AllAccounted s steps
 
-ran : {c z : Chip} {steps : List Step} → Run c steps z → (s : Both) → view c ≡ s .machine → chipFormed c ≡ true → Ran s steps z
-unfolding after AsDefined
-ran end s same formed = record { machine = same; formed = formed; defined = tt }
-ran (next {s = x} call rest) s same formed =
+ran : (image : List ℕ) {c z : Chip} {steps : List Step} → Run c steps z → (s : Both) → AgreesWith image (s .machine) (s .journal) → view c ≡ s .machine → chipFormed c ≡ true → Ran s steps z
+unfolding after AsDefined AllAccounted
+ran image end s agrees same formed = record { machine = same; formed = formed; defined = tt; accounts = tt }
+ran image (next {s = x} call rest) s agrees same formed =
     let p = performed (called-meets call) formed in
-    let r = ran rest (called (x .call) s) (p .machine ∙ ap (λ (m : Machine). perform m (x .call) .next) same) (p .formed) in
+    let answered = p .answered ∙ ap (λ (m : Machine). coded (perform m (x .call) .answer)) same in
+    let lent = p .lent ∙ ap (λ (m : Machine). perform m (x .call) .buffer) same in
+    let left = p .machine ∙ ap (λ (m : Machine). perform m (x .call) .next) same in
+    let r = ran image rest (called (x .call) s) (call-agrees image (x .call) (s .machine) (s .journal) agrees) left (p .formed) in
+    let o = perform (s .machine) (x .call) in
     record {
       machine = r .machine;
       formed = r .formed;
-      defined = (p .answered ∙ ap (λ (m : Machine). coded (perform m (x .call) .answer)) same, p .lent ∙ ap (λ (m : Machine). perform m (x .call) .buffer) same, r .defined);
+      defined = (answered, lent, left, r .defined);
+      accounts = (
+        subst (λ (n : ℕ). Accounted coded s (x .call) n (x .buffer) (view (x .chip))) (sym answered)
+            (subst (λ (bs : List ℕ). Accounted coded s (x .call) (coded (o .answer)) bs (view (x .chip))) (sym lent)
+            (subst (λ (m : Machine). Accounted coded s (x .call) (coded (o .answer)) (o .buffer) m) (sym left) (accounted image coded s agrees (x .call)))),
+        r .accounts,
+      );
     }
 
 -- A start from a whole image is not refused.
@@ -112,18 +127,19 @@ whole-image image {c} meets = go (eqb (length image) 512) refl
     go true e = eqb-true (length image) 512 e
     go false e = absurd (omega (arith, meets .refuses 1 (start-refused c image e) .0))
 
-kept : (image : List ℕ) (old fresh c : Chip) (steps : List Step) → Called old (record { call = start image; answer = 0; buffer = [] }) fresh → Run fresh steps c → Kept image steps c
+kept : (image : List ℕ) (old fresh c : Chip) (steps : List Step) → Called old (step (start image) 0 [] fresh) → Run fresh steps c → Kept image steps c
 unfolding after
 kept image old fresh c steps begins runs =
     let size = whole-image image (called-meets begins) in
     let first = called-meets begins .accepts (start-accepted old image size) in
-    let r = ran runs (record { machine = started image; journal = empty }) (first .1) (first .3) in
+    let r = ran image runs (record { machine = started image; journal = empty }) (run-agrees image size []) (first .1) (first .3) in
     let same : _≡_ {A = Both} (run image (callsOf steps)) (record { machine = view c; journal = run image (callsOf steps) .journal }) =
     ap (λ (m : Machine). record { machine = m; journal = run image (callsOf steps) .journal }) (sym (r .machine)) in
     record {
       same-machine = r .machine;
       formed = r .formed;
       as-defined = r .defined;
+      accounted = r .accounts;
       conserved = subst (Conserved image) same (demand-3 .conserved image size (callsOf steps));
       next-call = subst NextCall same (demand-3 .next-call image size (callsOf steps));
     }

@@ -1,0 +1,467 @@
+-- Which entries a host write, an advance and a delivery add: none of a host read, of a take or of a start, and the memory bytes among them, behind those
+-- that waited, are those that wait then.
+-- Assumes nothing.
+use mathlib.Core.Path.{_≡_, refl, sym, ap, _∙_, subst}
+use mathlib.Core.Bool.{Bool, true, false, cond, _&&_, true≢false}
+use mathlib.Core.List.{List, [], _∷_, _++_, append-assoc, append-nil, map}
+use Prim.Native.Nat.{ℕ, zero, suc, _+_, _-_, _*_, _%_, _<_, _≤_, min}
+use native.Mathlib.Omega.{arith}
+use lib.Dec.{ltb, leb, eqb}
+use lib.ListN.{length, take, drop, replicate, set}
+use borrow.Author.Tests.{ltb-true, ltb-false, leb-true, leb-false, le-leb, lt-leb}
+use Rattle.bits.specs.Bits.{bit, bitSet}
+use Rattle.machine.specs.State.{Machine, Command, Writing, Idle, WriteE2, ReadE2, LoadConfig, LoadKeyE2, LoadKey, CalcCRC, Transmit, Receive, TransceiveSending, TransceiveReceiving, addressing, ready, programming, withCommand, withTimer, withEnables, withRequests, withBitFraming, withRegisters, withControl}
+use Rattle.machine.specs.Fifo.{registerAt, offered, flushed}
+use Rattle.machine.specs.Memory.{roomInBlock, programmingClocks}
+use Rattle.machine.specs.Timer.{timerStarted, timerStopped, timerClock}
+use Rattle.machine.specs.Commands.{codeOf, programs, commandStarted, commandWritten, clearedErrors, enough, taken, ended, raisedTx, withAccessErr, latched, steppedAs, stepped, settled}
+use Rattle.machine.specs.Registers.{pageWritten, controlWritten, interruptsWritten, registerWritten}
+use Rattle.machine.specs.Events.{batchStored, programmed, clock, clocks}
+use Rattle.machine.proofs.Cases.{within-write-e2, while-programming}
+use Rattle.journal.specs.Entries as e
+use Rattle.journal.specs.Entries.{Entry, Byte, bytesTo, collect}
+use Rattle.journal.specs.Journal.{Journal, entered, offer, offerAll, leaveFrom, leave, leaveAll, Use, address, number, key, checksum, memory, leaveAs, leaveAllAs, usesOf, based, basedWithin, basedBy, addressHeld, offersOf, enterStep, enterSettled, begun, enterCommand, enterRegister, enterWritten, enterEnd, enterClockOf, enterClocks}
+use Rattle.journal.specs.Demand.{batch, waiting}
+use Rattle.journal.specs.Account.{memoryBytes, startImages}
+use Rattle.journal.proofs.Folds.{collect-append}
+use Rattle.journal.proofs.Agreement.{Agrees, AgreesWith, placed, memories, programmed-agrees}
+use Rattle.journal.proofs.Steps.{take-least, step-agrees}
+use Rattle.journal.proofs.Calls.{idle-latch, timer-agrees, register-agrees, clocks-agree}
+use Rattle.journal.proofs.Timer.{timer-command}
+use Rattle.journal.proofs.Programming.{plain-clocked, goes-on, ends, pending, Resting, plain, fresh, programmed-rests}
+
+-- Entries of no host read, of no take and of no start.
+pub record Inside (xs : List Entry) : Type 0 where
+  pub no-host : collect (bytesTo e.host) xs ≡ []
+  pub no-frame : collect (bytesTo e.frame) xs ≡ []
+  pub no-start : collect startImages xs ≡ []
+
+pub inside-none : Inside []
+unfolding collect
+inside-none = record { no-host = refl; no-frame = refl; no-start = refl }
+
+neither : {X : Type 0} (f : Entry → List X) (xs ys : List Entry) → collect f xs ≡ [] → collect f ys ≡ [] → collect f (xs ++ ys) ≡ []
+neither f xs ys p q = collect-append f xs ys ∙ ap (λ (z : List _). z ++ collect f ys) p ∙ q
+
+pub inside-both : (xs ys : List Entry) → Inside xs → Inside ys → Inside (xs ++ ys)
+inside-both xs ys a b =
+    record {
+      no-host = neither (bytesTo e.host) xs ys (a .no-host) (b .no-host);
+      no-frame = neither (bytesTo e.frame) xs ys (a .no-frame) (b .no-frame);
+      no-start = neither startImages xs ys (a .no-start) (b .no-start);
+    }
+
+-- A journal went on by such entries, none of which is of memory.
+pub record Adds (j k : Journal) : Type 0 where
+  pub entries : List Entry
+  pub appended : k .entries ≡ j .entries ++ entries
+  pub inside : Inside entries
+  pub no-memory : collect memoryBytes entries ≡ []
+
+pub adds-none : (j k : Journal) → k .entries ≡ j .entries → Adds j k
+unfolding collect
+adds-none j k same = record { entries = []; appended = same ∙ sym (append-nil (j .entries)); inside = inside-none; no-memory = refl }
+
+pub adds-both : {j k l : Journal} → Adds j k → Adds k l → Adds j l
+adds-both {j} {k} {l} a b =
+    record {
+      entries = a .entries ++ b .entries;
+      appended = b .appended ∙ ap (λ (z : List Entry). z ++ b .entries) (a .appended) ∙ append-assoc (j .entries) (a .entries) (b .entries);
+      inside = inside-both (a .entries) (b .entries) (a .inside) (b .inside);
+      no-memory = neither memoryBytes (a .entries) (b .entries) (a .no-memory) (b .no-memory);
+    }
+
+-- One entry.
+record Single (x : Entry) : Type 0 where
+  of-host : bytesTo e.host x ≡ []
+  of-frame : bytesTo e.frame x ≡ []
+  of-start : startImages x ≡ []
+  of-memory : memoryBytes x ≡ []
+
+alone : {X : Type 0} (f : Entry → List X) (x : Entry) → f x ≡ [] → collect f (x ∷ []) ≡ []
+unfolding collect
+alone f x p = ap (λ (z : List _). z ++ []) p
+
+adds-one : (j k : Journal) (x : Entry) → k .entries ≡ j .entries ++ x ∷ [] → Single x → Adds j k
+adds-one j k x is p =
+    record {
+      entries = x ∷ [];
+      appended = is;
+      inside = record { no-host = alone (bytesTo e.host) x (p .of-host); no-frame = alone (bytesTo e.frame) x (p .of-frame); no-start = alone startImages x (p .of-start) };
+      no-memory = alone memoryBytes x (p .of-memory);
+    }
+
+offer-adds : (b : ℕ) (j : Journal) → Adds j (offer b j)
+unfolding offer
+offer-adds b j = go (ltb (length (j .held)) 64)
+  where
+    go : (t : Bool) → Adds j (cond t (record { entries = j .entries ++ e.takenIn b ∷ []; held = j .held ++ b ∷ []; base = j .base; count = j .count }) (entered (e.turnedAway b) j))
+    go true = adds-one j _ (e.takenIn b) refl (record { of-host = refl; of-frame = refl; of-start = refl; of-memory = refl })
+    go false = adds-one j _ (e.turnedAway b) refl (record { of-host = refl; of-frame = refl; of-start = refl; of-memory = refl })
+
+pub offers-add : (bs : List ℕ) (j : Journal) → Adds j (offerAll bs j)
+unfolding offerAll
+offers-add [] j = adds-none j j refl
+offers-add (b ∷ bs) j = adds-both (offer-adds b j) (offers-add bs (offer b j))
+
+leave-adds : (x : ℕ → Entry) → ((b : ℕ) → Single (x b)) → (j : Journal) → Adds j (leave x j)
+unfolding leave
+leave-adds x p j = go (j .held)
+  where
+    go : (h : List ℕ) → Adds j (leaveFrom h x j)
+    go [] = adds-none j j refl
+    go (b ∷ h) = adds-one j _ (x b) refl (p b)
+
+map-adds : (x : ℕ → Entry) → ((b : ℕ) → Single (x b)) → (h : List ℕ) (j k : Journal) → k .entries ≡ j .entries ++ map x h → Adds j k
+map-adds x p [] j k is = adds-none j k (is ∙ append-nil (j .entries))
+map-adds x p (b ∷ h) j k is =
+    let next : Journal = record { entries = j .entries ++ x b ∷ []; held = []; base = 0; count = 0 } in
+    adds-both (adds-one j next (x b) refl (p b)) (map-adds x p h next k (is ∙ sym (append-assoc (j .entries) (x b ∷ []) (map x h))))
+
+flush-adds : (j : Journal) → Adds j (leaveAll (e.left e.flush) e.flushed j)
+unfolding leaveAll
+flush-adds j =
+    let next : Journal = record { entries = j .entries ++ map (e.left e.flush) (j .held); held = []; base = j .base; count = j .count } in
+    adds-both (map-adds (e.left e.flush) (λ b. record { of-host = refl; of-frame = refl; of-start = refl; of-memory = refl }) (j .held) j next refl)
+    (adds-one next _ e.flushed refl (record { of-host = refl; of-frame = refl; of-start = refl; of-memory = refl }))
+
+-- Bytes that leave to a command, other than memory bytes.
+abbrev NoMemory : Use → Type 0
+NoMemory address = Unit {0}
+NoMemory number = Unit {0}
+NoMemory key = Unit {0}
+NoMemory checksum = Unit {0}
+NoMemory memory = ⊥
+
+abbrev NoMemories : List Use → Type 0
+NoMemories [] = Unit {0}
+NoMemories (u ∷ us) = NoMemory u × NoMemories us
+
+use-adds : (u : Use) → NoMemory u → (j : Journal) → Adds j (leaveAs u j)
+unfolding leaveAs
+use-adds address p j = leave-adds (e.left e.address) (λ b. record { of-host = refl; of-frame = refl; of-start = refl; of-memory = refl }) j
+use-adds number p j = leave-adds (e.left e.count) (λ b. record { of-host = refl; of-frame = refl; of-start = refl; of-memory = refl }) j
+use-adds key p j = leave-adds (e.left e.key) (λ b. record { of-host = refl; of-frame = refl; of-start = refl; of-memory = refl }) j
+use-adds checksum p j = leave-adds (e.left e.checksum) (λ b. record { of-host = refl; of-frame = refl; of-start = refl; of-memory = refl }) j
+use-adds memory p j = absurd p
+
+uses-add : (us : List Use) → NoMemories us → (j : Journal) → Adds j (leaveAllAs us j)
+unfolding leaveAllAs
+uses-add [] p j = adds-none j j refl
+uses-add (u ∷ us) (p, ps) j = adds-both (use-adds u p j) (uses-add us ps (leaveAs u j))
+
+repeated : (n : ℕ) (u : Use) → NoMemory u → NoMemories (replicate n u)
+repeated zero u p = tt
+repeated (suc n) u p = (p, repeated n u p)
+
+wanted-none : (t : Bool) (us : List Use) → NoMemories us → NoMemories (cond t us [])
+wanted-none true us p = p
+wanted-none false us p = tt
+
+based-adds : (c : Command) (before j : Journal) → Adds j (basedBy c before j)
+based-adds c before j = within-write-e2 (λ k. Adds j k) (λ w. basedWithin w before j) j c (λ w is. go w) (adds-none j j refl)
+  where
+    choice : (t : Bool) → Adds j (cond t (based (addressHeld before) j) j)
+    choice true = adds-none j _ refl
+    choice false = adds-none j j refl
+
+    go : (w : Writing) → Adds j (basedWithin w before j)
+    go addressing = choice (leb 2 (length (before .held)))
+    go (ready a) = adds-none j j refl
+    go (programming a bs left) = adds-none j j refl
+
+-- One step of a command that takes no memory byte.
+abbrev stepOf : Command → List ℕ → Journal → Journal
+stepOf c eeprom j = offerAll (offersOf c eeprom j) (basedBy c j (leaveAllAs (usesOf c (length (j .held))) j))
+
+step-adds : (c : Command) (eeprom : List ℕ) (j : Journal) → NoMemories (usesOf c (length (j .held))) → Adds j (stepOf c eeprom j)
+step-adds c eeprom j p = adds-both (adds-both (uses-add (usesOf c (length (j .held))) p j) (based-adds c j _)) (offers-add (offersOf c eeprom j) _)
+
+-- A journal went on under a command, to another: the memory bytes that waited, and those that left, are those that wait then.
+pub record Enters (c : Command) (j : Journal) (c′ : Command) (k : Journal) : Type 0 where
+  pub entries : List Entry
+  pub appended : k .entries ≡ j .entries ++ entries
+  pub inside : Inside entries
+  pub waits : waiting c ++ collect memoryBytes entries ≡ waiting c′
+
+pub enters-plain : {c c′ : Command} {j k : Journal} → Adds j k → waiting c ≡ waiting c′ → Enters c j c′ k
+enters-plain {c} {c′} a same =
+    record {
+      entries = a .entries;
+      appended = a .appended;
+      inside = a .inside;
+      waits = ap (λ (z : List Byte). waiting c ++ z) (a .no-memory) ∙ append-nil (waiting c) ∙ same;
+    }
+
+enters-both : {c d f : Command} {j k l : Journal} → Enters c j d k → Enters d k f l → Enters c j f l
+enters-both {c} {d} {f} {j} {k} {l} a b =
+    record {
+      entries = a .entries ++ b .entries;
+      appended = b .appended ∙ ap (λ (z : List Entry). z ++ b .entries) (a .appended) ∙ append-assoc (j .entries) (a .entries) (b .entries);
+      inside = inside-both (a .entries) (b .entries) (a .inside) (b .inside);
+      waits =
+          ap (λ (z : List Byte). waiting c ++ z) (collect-append memoryBytes (a .entries) (b .entries))
+          ∙ sym (append-assoc (waiting c) (collect memoryBytes (a .entries)) (collect memoryBytes (b .entries)))
+          ∙ ap (λ (z : List Byte). z ++ collect memoryBytes (b .entries)) (a .waits)
+          ∙ b .waits;
+    }
+
+-- Memory bytes that leave to a place and behind it.
+placed-inside : (image : List ℕ) (a : ℕ) (bs : List ℕ) → Inside (placed image a bs)
+unfolding placed collect
+placed-inside image a [] = inside-none
+placed-inside image a (b ∷ bs) = let r = placed-inside image (a + 1) bs in record { no-host = r .no-host; no-frame = r .no-frame; no-start = r .no-start }
+
+placed-batch : (image : List ℕ) (a : ℕ) (bs : List ℕ) → collect memoryBytes (placed image a bs) ≡ batch a bs
+unfolding placed collect batch
+placed-batch image a [] = refl
+placed-batch image a (b ∷ bs) = ap (λ (z : List Byte). record { address = a; value = b } ∷ z) (placed-batch image (a + 1) bs)
+
+-- What holds of both machines holds of the one that a test picks.
+choose : (P : Machine → Type 0) (t : Bool) {x y : Machine} → P x → P y → P (cond t x y)
+choose P true p q = p
+choose P false p q = q
+
+abbrev NoneWait : Machine → Type 0
+NoneWait m = waiting (m .command) ≡ []
+
+module _ (image : List ℕ) where
+  -- A WriteE2 whose address is known takes waiting bytes, or ends over them.
+  latch-enters : (s : ℕ) (m : Machine) (j : Journal) → m .command ≡ WriteE2 (ready s) → AgreesWith image m j →
+      Enters Idle j ((cond (enough 1 m) (latched s m) m) .command) (leaveAllAs (cond (leb 0x10 s) (replicate (min (roomInBlock s) (length (j .held))) memory) []) j)
+  unfolding leaveAllAs
+  latch-enters s m j is a = go (enough 1 m) refl
+    where
+      h : List ℕ
+      h = m .held
+
+      n : ℕ
+      n = min (roomInBlock s) (length (j .held))
+
+      here : Agrees image (m .held) (WriteE2 (ready s)) (m .checksum) (m .eeprom) (m .status .errors .keyErr) j
+      here = subst (λ (c : Command). Agrees image (m .held) c (m .checksum) (m .eeprom) (m .status .errors .keyErr) j) is a
+
+      none : (t : Bool) → n ≡ 0 → Adds j (leaveAllAs (cond t (replicate n memory) []) j)
+      none true zero-left = subst (λ (k : ℕ). Adds j (leaveAllAs (replicate k memory) j)) (sym zero-left) (adds-none j j refl)
+      none false zero-left = adds-none j j refl
+
+      latches : (t : Bool) → ltb s 0x10 ≡ t →
+          Enters Idle j ((cond t (ended (withAccessErr m)) (withCommand (WriteE2 (programming s (take (roomInBlock s) (m .held)) programmingClocks)) (taken (roomInBlock s) m))) .command)
+          (leaveAllAs (cond (leb 0x10 s) (replicate n memory) []) j)
+      latches true low =
+          subst (λ (u : Bool). Enters Idle j Idle (leaveAllAs (cond u (replicate n memory) []) j)) (sym (lt-leb 0x10 s (ltb-true s 0x10 low))) (enters-plain (adds-none j j refl) refl)
+      latches false high =
+          let up : 0x10 ≤ s = ltb-false s 0x10 high in
+          let place : j .base + j .count ≡ s = omega (arith, here .same-place .0, here .same-place .1) in
+          let left = memories image n (j .entries) (j .held) (j .base) (j .count) (omega arith) in
+          subst (λ (u : Bool). Enters Idle j (WriteE2 (programming s (take (roomInBlock s) (m .held)) programmingClocks)) (leaveAllAs (cond u (replicate n memory) []) j)) (sym (le-leb 0x10 s up))
+          (record {
+            entries = placed image (j .base + j .count) (take n (j .held));
+            appended = ap (λ (k : Journal). k .entries) left;
+            inside = placed-inside image (j .base + j .count) (take n (j .held));
+            waits =
+                placed-batch image (j .base + j .count) (take n (j .held))
+                ∙ ap (λ (k : ℕ). batch k (take n (j .held))) place
+                ∙ ap (batch s) (take-least (roomInBlock s) (j .held) ∙ ap (take (roomInBlock s)) (a .same-held));
+          })
+
+      go : (t : Bool) → enough 1 m ≡ t → Enters Idle j ((cond t (latched s m) m) .command) (leaveAllAs (cond (leb 0x10 s) (replicate n memory) []) j)
+      go true some = latches (ltb s 0x10) refl
+      go false empty =
+          let size : length (j .held) ≡ length (m .held) = ap length (a .same-held) in
+          enters-plain (none (leb 0x10 s) (omega (arith, leb-false 1 (length (m .held)) empty))) (sym (ap waiting is))
+
+  step-as : (c : Command) (m : Machine) (j : Journal) → m .command ≡ c → AgreesWith image m j → Enters c j (steppedAs c m .command) (stepOf c (m .eeprom) j)
+  unfolding offerAll
+  step-as Idle m j is a = enters-plain (step-adds Idle (m .eeprom) j tt) (sym (ap waiting is))
+  step-as (WriteE2 addressing) m j is a =
+      enters-plain (step-adds (WriteE2 addressing) (m .eeprom) j (wanted-none (leb 2 (length (j .held))) _ (tt, (tt, tt)))) (sym (choose NoneWait (enough 2 m) refl (ap waiting is)))
+  step-as (WriteE2 (ready s)) m j is a =
+      let l = latch-enters s m j is a in record { entries = l .entries; appended = l .appended; inside = l .inside; waits = l .waits }
+  step-as (WriteE2 (programming s bs left)) m j is a = enters-plain (step-adds (WriteE2 (programming s bs left)) (m .eeprom) j tt) (sym (ap waiting is))
+  step-as ReadE2 m j is a =
+      enters-plain (step-adds ReadE2 (m .eeprom) j (wanted-none (leb 3 (length (j .held))) _ (tt, (tt, (tt, tt))))) (sym (choose NoneWait (enough 3 m) refl (ap waiting is)))
+  step-as LoadConfig m j is a =
+      enters-plain (step-adds LoadConfig (m .eeprom) j (wanted-none (leb 2 (length (j .held))) _ (tt, (tt, tt)))) (sym (choose NoneWait (enough 2 m) refl (ap waiting is)))
+  step-as LoadKeyE2 m j is a =
+      enters-plain (step-adds LoadKeyE2 (m .eeprom) j (wanted-none (leb 2 (length (j .held))) _ (tt, (tt, tt)))) (sym (choose NoneWait (enough 2 m) refl (ap waiting is)))
+  step-as LoadKey m j is a =
+      enters-plain (step-adds LoadKey (m .eeprom) j (wanted-none (leb 12 (length (j .held))) _ (repeated 12 key tt))) (sym (choose NoneWait (enough 12 m) refl (ap waiting is)))
+  step-as CalcCRC m j is a =
+      enters-plain (step-adds CalcCRC (m .eeprom) j (repeated (length (j .held)) checksum tt)) (sym (choose NoneWait (enough 1 m) (ap waiting is) (ap waiting is)))
+  step-as Transmit m j is a = enters-plain (step-adds Transmit (m .eeprom) j tt) (sym (ap waiting is))
+  step-as Receive m j is a = enters-plain (step-adds Receive (m .eeprom) j tt) (sym (ap waiting is))
+  step-as TransceiveSending m j is a = enters-plain (step-adds TransceiveSending (m .eeprom) j tt) (sym (ap waiting is))
+  step-as TransceiveReceiving m j is a = enters-plain (step-adds TransceiveReceiving (m .eeprom) j tt) (sym (ap waiting is))
+
+  step-enters : (m : Machine) (j : Journal) → AgreesWith image m j → Enters (m .command) j (stepped m .command) (enterStep m j)
+  unfolding stepped enterStep
+  step-enters m j a = step-as (m .command) m j refl a
+
+  settle-enters : (m : Machine) (j : Journal) → AgreesWith image m j → Enters (m .command) j (settled m .command) (enterSettled m j)
+  unfolding settled enterSettled
+  settle-enters m j a = enters-both (step-enters m j a) (step-enters (stepped m) (enterStep m j) (step-agrees image m j a))
+
+  -- A write to a register.
+  one-of : (j : Journal) (t : Bool) (x y : Journal) → Adds j x → Adds j y → Adds j (cond t x y)
+  one-of j true x y p q = p
+  one-of j false x y p q = q
+
+  begun-adds : (c : Command) (m : Machine) (j : Journal) → Adds j (begun c m j)
+  begun-adds c m j =
+      let x = e.calcCRC (registerAt m 0x22) (registerAt m 0x23) (registerAt m 0x24) in
+      one-of j (eqb (codeOf c) 0x12) (entered x j) j (adds-one j (entered x j) x refl (record { of-host = refl; of-frame = refl; of-start = refl; of-memory = refl })) (adds-none j j refl)
+
+  register-adds : (r v : ℕ) (m : Machine) (j : Journal) → Adds j (enterRegister r v m j)
+  register-adds r v m j =
+      one-of j (eqb (r % 8) 0) j _ (adds-none j j refl)
+      (one-of j (eqb r 0x01) (enterCommand v m j) _ (one-of j (programs (m .command)) j _ (adds-none j j refl) (begun-adds (commandWritten v m .command) m j))
+      (one-of j (eqb r 0x02) (offer v j) _ (offer-adds v j)
+      (one-of j (eqb r 0x09) _ j (one-of j (bitSet v 0) _ j (flush-adds j) (adds-none j j refl)) (adds-none j j refl))))
+
+  -- The same bytes wait after it.
+  module _ (m : Machine) where
+    abbrev Waits : Machine → Type 0
+    Waits n = waiting (n .command) ≡ waiting (m .command)
+
+    command-waits : (v : ℕ) → Waits (commandWritten v m)
+    unfolding commandWritten
+    command-waits v = go (programs (m .command)) refl
+      where
+        go : (t : Bool) → programs (m .command) ≡ t → Waits (cond t m (commandStarted (v % 64) (clearedErrors m)))
+        go true is = refl
+        go false is =
+            let none = sym (idle-latch (m .command) is) in
+            let code = v % 64 in
+            choose Waits (eqb code 0x00) none
+            (choose Waits (eqb code 0x01) none
+            (choose Waits (eqb code 0x03) none
+            (choose Waits (eqb code 0x07) none
+            (choose Waits (eqb code 0x0B) none
+            (choose Waits (eqb code 0x12) none
+            (choose Waits (eqb code 0x16) none
+            (choose Waits (eqb code 0x19) none
+            (choose Waits (eqb code 0x1A) none
+            (choose Waits (eqb code 0x1E) none
+            none)))))))))
+
+    control-waits : (v : ℕ) → Waits (controlWritten v m)
+    control-waits v = go (bitSet v 0) (bitSet v 2) (bitSet v 1)
+      where
+        go : (f s t : Bool) →
+            let flushes = cond f (flushed m) m in
+            let stops = cond s (timerStopped flushes) flushes in
+            let starts = cond t (timerStarted stops) stops in
+            Waits (withControl (32 * bit v 5 + 16 * bit v 4) starts)
+        go true true true = refl
+        go true true false = refl
+        go true false true = refl
+        go true false false = refl
+        go false true true = refl
+        go false true false = refl
+        go false false true = refl
+        go false false false = refl
+
+    offered-waits : (b : ℕ) → Waits (offered b m)
+    unfolding offered
+    offered-waits b = choose Waits (ltb (length (m .held)) 64) refl refl
+
+    register-waits : (r v : ℕ) → Waits (registerWritten r v m)
+    unfolding registerWritten
+    register-waits r v =
+        choose Waits (eqb (r % 8) 0) refl
+        (choose Waits (eqb r 0x01) (command-waits v)
+        (choose Waits (eqb r 0x02) (offered-waits v)
+        (choose Waits (eqb r 0x06) refl
+        (choose Waits (eqb r 0x07) refl
+        (choose Waits (eqb r 0x09) (control-waits v)
+        (choose Waits (eqb r 0x0F) refl
+        (choose Waits (leb 0x10 r && ltb r 0x30) refl refl)))))))
+
+  -- A host write, with what the active command then does.
+  pub written-enters : (r v : ℕ) (m : Machine) (j : Journal) → AgreesWith image m j → Enters (m .command) j (settled (registerWritten r v m) .command) (enterWritten r v m j)
+  unfolding enterWritten
+  written-enters r v m j a =
+      enters-both (enters-plain (register-adds r v m j) (sym (register-waits m r v))) (settle-enters (registerWritten r v m) (enterRegister r v m j) (register-agrees image r v m j a))
+
+  -- Clocks by which no programming ends.
+  quiet-clock : (c : Command) (m : Machine) (j : Journal) → programs c ≡ false → enterClockOf c m j ≡ j
+  quiet-clock c m j p =
+      while-programming (λ (k : Journal). k ≡ j) (λ a bs left. cond (leb left 1) (enterEnd a bs m j) j) j c (λ a bs left is. absurd (true≢false (sym (ap programs is) ∙ p))) refl
+
+  pub plain-clocks : (n : ℕ) (m : Machine) (j : Journal) → programs (m .command) ≡ false → (enterClocks n m j ≡ j) × (waiting (clocks n m .command) ≡ [])
+  unfolding clocks enterClocks clock
+  plain-clocks zero m j p = (refl, idle-latch (m .command) p)
+  plain-clocks (suc n) m j p =
+      let same : clock m ≡ timerClock m = plain-clocked (m .command) (timerClock m) p in
+      let (stays, none) = plain-clocks n (clock m) j (ap (λ (x : Machine). programs (x .command)) same ∙ ap programs (timer-command m) ∙ p) in
+      (ap (enterClocks n (clock m)) (quiet-clock (m .command) (timerClock m) j p) ∙ stays, none)
+
+  -- One clock of a programming that goes on enters nothing, and one that ends it enters what the next bytes do.
+  clock-of : (m : Machine) (j : Journal) (a left : ℕ) (bs : List ℕ) → m .command ≡ WriteE2 (programming a bs left) → (t : Bool) → leb left 1 ≡ t →
+      enterClockOf (m .command) (timerClock m) j ≡ cond t (enterEnd a bs (timerClock m) j) j
+  clock-of m j a left bs is t e = ap (λ (c : Command). enterClockOf c (timerClock m) j) is ∙ ap (λ (u : Bool). cond u (enterEnd a bs (timerClock m) j) j) e
+
+  pub pending-clocks : (n : ℕ) (m : Machine) (j : Journal) (a left : ℕ) (bs : List ℕ) → m .command ≡ WriteE2 (programming a bs left) → n < left → enterClocks n m j ≡ j
+  unfolding enterClocks
+  pending-clocks zero m j a left bs is h = refl
+  pending-clocks (suc n) m j a left bs is h =
+      ap (enterClocks n (clock m)) (clock-of m j a left bs is false (lt-leb left 1 (omega arith)))
+      ∙ pending-clocks n (clock m) j a (left - 1) bs (ap (λ (x : Machine). x .command) (goes-on m a left bs is (omega arith))) (omega arith)
+
+  resting-clocks : (n : ℕ) (m : Machine) (j : Journal) → n < programmingClocks → Resting (m .command) → (enterClocks n m j ≡ j) × (waiting (clocks n m .command) ≡ waiting (m .command))
+  resting-clocks n m j h r = go (m .command) refl r
+    where
+      go : (c : Command) → m .command ≡ c → Resting c → (enterClocks n m j ≡ j) × (waiting (clocks n m .command) ≡ waiting c)
+      go c is (plain p) = let (stays, none) = plain-clocks n m j (ap programs is ∙ p) in (stays, none ∙ sym (idle-latch c p))
+      go c is (fresh a bs) = (pending-clocks n m j a programmingClocks bs is h, ap waiting (pending n m a programmingClocks bs is h .0))
+
+  -- The end of a programming: the bytes that wait then are those that leave by it.
+  end-enters : (s left : ℕ) (bs : List ℕ) (m : Machine) (j : Journal) → m .command ≡ WriteE2 (programming s bs left) → AgreesWith image m j → Enters Idle j (programmed s bs m .command) (enterEnd s bs m j)
+  end-enters s left bs m j is a =
+      subst (λ (h : List ℕ). Enters Idle j (programmed s bs m .command) (cond (eqb (length h) 0) j (enterSettled (batchStored s bs m) j))) (sym (a .same-held)) (go (eqb (length (m .held)) 0))
+    where
+      stored : AgreesWith image (batchStored s bs m) j
+      stored =
+          programmed-agrees image (m .held) s left bs (m .checksum) (m .eeprom) (m .status .errors .keyErr) j
+          (subst (λ (c : Command). Agrees image (m .held) c (m .checksum) (m .eeprom) (m .status .errors .keyErr) j) is a)
+
+      go : (t : Bool) → Enters Idle j ((cond t (raisedTx (batchStored s bs m)) (settled (batchStored s bs m))) .command) (cond t j (enterSettled (batchStored s bs m) j))
+      go true = enters-plain (adds-none j j refl) refl
+      go false = let l = settle-enters (batchStored s bs m) j stored in record { entries = l .entries; appended = l .appended; inside = l .inside; waits = l .waits }
+
+  -- An advance that ends a programming.
+  pub finish-enters : (n : ℕ) (m : Machine) (j : Journal) (a left : ℕ) (bs : List ℕ) → m .command ≡ WriteE2 (programming a bs left) → AgreesWith image m j → 1 ≤ left → left ≤ n → n < left + programmingClocks →
+      Enters Idle j (clocks n m .command) (enterClocks n m j)
+  unfolding clocks enterClocks
+  finish-enters zero m j a left bs is agrees some within before = absurd (omega arith)
+  finish-enters (suc n) m j a left bs is agrees some within before =
+      go (leb left 1) refl
+      (λ more next.
+      finish-enters n (clock m) j a (left - 1) bs (ap (λ (x : Machine). x .command) (goes-on m a left bs is more)) next (omega arith) (omega arith) (omega arith))
+    where
+      tm : Machine
+      tm = timerClock m
+
+      k : Journal
+      k = enterClockOf (m .command) (timerClock m) j
+
+      go : (t : Bool) → leb left 1 ≡ t → (1 < left → AgreesWith image (clock m) j → Enters Idle j (clocks n (clock m) .command) (enterClocks n (clock m) j)) →
+          Enters Idle j (clocks n (clock m) .command) (enterClocks n (clock m) k)
+      go true e later =
+          let same = ends m a left bs is (leb-true left 1 e) in
+          let last = programmed-rests a bs tm in
+          let (stays, wait) = resting-clocks n (programmed a bs tm) (enterEnd a bs tm j) (omega (arith, leb-true left 1 e)) (last .resting) in
+          let l = end-enters a left bs tm j (timer-command m ∙ is) (timer-agrees image m j agrees) in
+          subst (λ (x : Machine). Enters Idle j (clocks n x .command) (enterClocks n x k)) (sym same)
+          (subst (λ (z : Journal). Enters Idle j (clocks n (programmed a bs tm) .command) (enterClocks n (programmed a bs tm) z)) (sym (clock-of m j a left bs is true e))
+          (record {
+            entries = l .entries;
+            appended = ap (λ (z : Journal). z .entries) stays ∙ l .appended;
+            inside = l .inside;
+            waits = l .waits ∙ sym wait;
+          }))
+      go false e later =
+          let stays : k ≡ j = clock-of m j a left bs is false e in
+          subst (λ (z : Journal). Enters Idle j (clocks n (clock m) .command) (enterClocks n (clock m) z)) (sym stays)
+          (later (leb-false left 1 e) (subst (AgreesWith image (clock m)) stays (clocks-agree image 1 m j agrees)))

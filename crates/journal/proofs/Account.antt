@@ -8,10 +8,9 @@ use native.Mathlib.Omega.{arith}
 use lib.Dec.{ltb, leb, eqb}
 use lib.ListN.{length, take, drop, getD}
 use lib.Seq.{drop-append-seam}
-use borrow.Author.Tests.{eqb-true, eqb-false, eq-eqb, ltb-false, leb-true, leb-false}
+use borrow.Author.Tests.{eqb-true, eq-eqb, ltb-false, leb-true, leb-false}
 use Rattle.machine.specs.State.{Machine, Command, WriteE2, TransceiveReceiving, programming, withCommand, withHeld}
 use Rattle.machine.specs.Fifo.{firstOf, restOf, alerted}
-use Rattle.machine.specs.Memory.{programmingClocks}
 use Rattle.machine.specs.Commands.{codeOf, programs, ended, raisedTx}
 use Rattle.machine.specs.Frames.{sending, receiving, txBegun, txEnded, afterSending, sent, received, passed}
 use Rattle.machine.specs.Registers.{mapped}
@@ -22,16 +21,17 @@ use Rattle.machine.proofs.Performing.{as-accepted, passed-test, not-false}
 use Rattle.machine.proofs.Cases.{while-programming}
 use Rattle.journal.specs.Entries as e
 use Rattle.journal.specs.Entries.{Entry, Byte, Memory, remembered, memoryFrom, bytesTo, keyBytes, collect}
-use Rattle.journal.specs.Journal.{Journal, leaveFrom, leave, leaveAll, offerAll, enterAccepted, enter, enterClocks, Both, called}
+use Rattle.journal.specs.Journal.{Journal, leaveFrom, leave, leaveAll, offerAll, enterAccepted, enter, enterClocks, Both}
 use Rattle.journal.specs.Demand.{run, batch, waiting, storedBytes, ReadOf, NextCall}
-use Rattle.journal.specs.Account.{added, memoryBytes, startImages, AtAddresses, Programmed, AccountedBy, Accounted, EveryCall}
+use Rattle.journal.specs.Account.{added, memoryBytes, startImages, AtAddresses, AccountedBy, Accounted, EveryCall}
 use Rattle.journal.proofs.Folds.{collect-append, memory-append}
+use Rattle.journal.proofs.Adding.{none-of, offers-add}
 use Rattle.journal.proofs.Agreement.{AgreesWith, PlaceIs, memoryOf, stored-parts}
 use Rattle.journal.proofs.Calls.{idle-latch, receiving-latch}
 use Rattle.journal.proofs.Run.{or-first, call-agrees, run-agrees}
 use Rattle.journal.proofs.Programming.{pending}
 use Rattle.journal.proofs.Demand.{command-formed, clocks-left, next-call}
-use Rattle.journal.proofs.Entered.{Inside, inside-none, Adds, offers-add, Enters, enters-plain, written-enters, plain-clocks, pending-clocks, finish-enters}
+use Rattle.journal.proofs.Entered.{Inside, inside-none, Apart, apart-inside, moved, Enters, written-enters, plain-clocks, pending-clocks, finish-enters}
 
 none-some : {A X : Type 0} {x : A} {xs : List A} → _≡_ {A = List A} [] (x ∷ xs) → X
 none-some {xs = xs} h = absurd (let z : _≡_ {A = ℕ} 0 (suc (length xs)) = ap length h in omega arith)
@@ -315,9 +315,9 @@ module _ (image : List ℕ) (m : Machine) (j : Journal) (a : AgreesWith image m 
   deliver-parts bytes parities lastBits ok =
       let rest = passed-test (not (frameFormed bytes parities lastBits)) 4 _ (passed-test (not (wellFormed m)) 6 _ ok .1) .1 in
       let waits = receiving-latch image (m .command) (not-false _ (passed-test (not (receiving (m .command))) 3 0 rest .0)) in
-      let l = offers-add (passed m bytes lastBits) j in
-      inside-parts (deliver bytes parities lastBits) (delivered bytes parities lastBits m) _ (l .entries) (l .appended) (l .inside) (λ n is. no-refusal (deliver bytes parities lastBits) n ok is)
-      (no-read (deliver bytes parities lastBits) refl) (same-waiting (l .entries) (delivered bytes parities lastBits m) (l .no-memory) waits)
+      let l = offers-add Apart moved (passed m bytes lastBits) j in
+      inside-parts (deliver bytes parities lastBits) (delivered bytes parities lastBits m) _ (l .entries) (l .appended) (apart-inside (l .entries) (l .each)) (λ n is. no-refusal (deliver bytes parities lastBits) n ok is)
+      (no-read (deliver bytes parities lastBits) refl) (same-waiting (l .entries) (delivered bytes parities lastBits m) (none-of Apart memoryBytes (λ x p. p .of-memory) (l .entries) (l .each)) waits)
 
   accepted-parts : (c : Call) → refusal m c ≡ 0 → NextCall before → Parts c (accepted m c .next) (enterAccepted c m j)
   accepted-parts (start image′) ok next = start-parts image′ ok

@@ -24,10 +24,11 @@ use Rattle.machine.proofs.WellFormed.Parts.{each}
 use Rattle.journal.specs.Entries as e
 use Rattle.journal.specs.Entries.{collect, keyBytes}
 use Rattle.journal.specs.Journal.{Journal, enterAccepted, enter, leaveFrom, leave, Both}
-use Rattle.journal.specs.Demand.{run, checksumShown, ReadOf, ReadAnswers, NextCall, Demand3}
+use Rattle.journal.specs.Demand.{run, checksumShown, ReadAnswers, NextCall, Demand3}
 use Rattle.journal.proofs.Agreement.{Agrees, AgreesWith, PlaceIs}
 use Rattle.journal.proofs.Run.{run-agrees, conserved}
-use Rattle.journal.proofs.Keys.{Keyless, Judged, nothing, twelve, KeyCall, key-none, offers-keyless, leave-keyless, all-keyless, clocks-keyless, written-keys}
+use Rattle.journal.proofs.Keys.{NoKey, moved, Judged, nothing, twelve, KeyCall, key-none, clocks-keyless, written-keys}
+use Rattle.journal.proofs.Adding.{adds-none, leave-adds, all-adds, offers-add}
 use Rattle.journal.proofs.Programming.{stored-at, pending, finishes}
 
 pub command-formed : (m : Machine) → wellFormed m ≡ true → commandFormed (m .command) ≡ true
@@ -45,17 +46,17 @@ module _ (image : List ℕ) where
   -- Every call enters no key byte, or twelve that are judged.
   accepted-keys : (c : Call) (m : Machine) (j : Journal) → AgreesWith image m j → KeyCall j (enterAccepted c m j) (accepted m c .next)
   unfolding written alerted
-  accepted-keys (start image′) m j a = key-none j _ _ (all-keyless (e.left e.start) (e.started image′) (λ b. refl) refl j)
+  accepted-keys (start image′) m j a = key-none j _ _ (all-adds NoKey (e.left e.start) (e.started image′) (λ b. refl) refl j)
   accepted-keys (hostRead address) m j a = go (eqb (mapped (m .page) address) 0x02)
     where
       go : (t : Bool) → KeyCall j (cond t (leave (e.left e.host) j) j) (afterRead address m)
-      go true = key-none j _ _ (leave-keyless (e.left e.host) (λ b. refl) j)
-      go false = key-none j _ _ refl
+      go true = key-none j _ _ (leave-adds NoKey (e.left e.host) (λ b. refl) j)
+      go false = key-none j _ _ (adds-none NoKey j j refl)
   accepted-keys (hostWrite address v) m j a =
       let k = written-keys image (mapped (m .page) address) v m j a in record { bytes = k .bytes; entered-keys = k .entered-keys; judged = k .judged }
   accepted-keys (advance n) m j a = key-none j _ _ (clocks-keyless image n m j)
-  accepted-keys (takeFrame buffer) m j a = key-none j _ _ (all-keyless (e.left e.frame) e.tookFrame (λ b. refl) refl j)
-  accepted-keys (deliver bytes parities lastBits) m j a = key-none j _ _ (offers-keyless _ j)
+  accepted-keys (takeFrame buffer) m j a = key-none j _ _ (all-adds NoKey (e.left e.frame) e.tookFrame (λ b. refl) refl j)
+  accepted-keys (deliver bytes parities lastBits) m j a = key-none j _ _ (offers-add NoKey moved _ j)
 
   call-keys : (c : Call) (m : Machine) (j : Journal) → AgreesWith image m j → KeyCall j (enter c m j) (perform m c .next)
   unfolding perform enter
@@ -63,7 +64,7 @@ module _ (image : List ℕ) where
     where
       go : (t : Bool) → KeyCall j (cond t (enterAccepted c m j) j) ((cond t (accepted m c) (record { answer = refused (refusal m c); next = m; buffer = bufferOf c })) .next)
       go true = accepted-keys c m j a
-      go false = key-none j j m refl
+      go false = key-none j j m (adds-none NoKey j j refl)
 
   judged-twelve : (k : Key) (f : Bool) (ks ls : List ℕ) (x : ℕ) → ks ≡ x ∷ ls → Judged k f ks → (length ks ≡ 12) × (k ≡ record { loaded = formatHolds ks; bytes = judgedKey ks }) × (f ≡ not (formatHolds ks))
   judged-twelve k f ks ls x some nothing = absurd (let z : _≡_ {A = ℕ} 0 (suc (length ls)) = ap length some in omega arith)

@@ -3,27 +3,28 @@
 -- Assumes nothing.
 use mathlib.Core.Path.{_≡_, refl, sym, ap, _∙_, subst}
 use mathlib.Core.Bool.{Bool, true, false, cond, _&&_, true≢false}
-use mathlib.Core.List.{List, [], _∷_, _++_, append-assoc, append-nil, map}
+use mathlib.Core.List.{List, [], _∷_, _++_, append-assoc, append-nil}
 use Prim.Native.Nat.{ℕ, zero, suc, _+_, _-_, _*_, _%_, _<_, _≤_, min}
 use native.Mathlib.Omega.{arith}
 use lib.Dec.{ltb, leb, eqb}
-use lib.ListN.{length, take, drop, replicate, set}
+use lib.ListN.{length, take, replicate}
 use borrow.Author.Tests.{ltb-true, ltb-false, leb-true, leb-false, le-leb, lt-leb}
 use Rattle.bits.specs.Bits.{bit, bitSet}
-use Rattle.machine.specs.State.{Machine, Command, Writing, Idle, WriteE2, ReadE2, LoadConfig, LoadKeyE2, LoadKey, CalcCRC, Transmit, Receive, TransceiveSending, TransceiveReceiving, addressing, ready, programming, withCommand, withTimer, withEnables, withRequests, withBitFraming, withRegisters, withControl}
-use Rattle.machine.specs.Fifo.{registerAt, offered, flushed}
+use Rattle.machine.specs.State.{Machine, Command, Writing, Idle, WriteE2, ReadE2, LoadConfig, LoadKeyE2, LoadKey, CalcCRC, Transmit, Receive, TransceiveSending, TransceiveReceiving, addressing, ready, programming, withinWriteE2, withCommand, withControl}
+use Rattle.machine.specs.Fifo.{offered, flushed}
 use Rattle.machine.specs.Memory.{roomInBlock, programmingClocks}
 use Rattle.machine.specs.Timer.{timerStarted, timerStopped, timerClock}
-use Rattle.machine.specs.Commands.{codeOf, programs, commandStarted, commandWritten, clearedErrors, enough, taken, ended, raisedTx, withAccessErr, latched, steppedAs, stepped, settled}
-use Rattle.machine.specs.Registers.{pageWritten, controlWritten, interruptsWritten, registerWritten}
+use Rattle.machine.specs.Commands.{programs, commandStarted, commandWritten, clearedErrors, enough, taken, ended, raisedTx, withAccessErr, latched, steppedAs, stepped, settled}
+use Rattle.machine.specs.Registers.{controlWritten, registerWritten}
 use Rattle.machine.specs.Events.{batchStored, programmed, clock, clocks}
-use Rattle.machine.proofs.Cases.{within-write-e2, while-programming}
+use Rattle.machine.proofs.Cases.{while-programming}
 use Rattle.journal.specs.Entries as e
 use Rattle.journal.specs.Entries.{Entry, Byte, bytesTo, collect}
-use Rattle.journal.specs.Journal.{Journal, entered, offer, offerAll, leaveFrom, leave, leaveAll, Use, address, number, key, checksum, memory, leaveAs, leaveAllAs, usesOf, based, basedWithin, basedBy, addressHeld, offersOf, enterStep, enterSettled, begun, enterCommand, enterRegister, enterWritten, enterEnd, enterClockOf, enterClocks}
+use Rattle.journal.specs.Journal.{Journal, offerAll, memory, leaveAllAs, usesOf, basedBy, offersOf, enterStep, enterSettled, enterRegister, enterWritten, enterEnd, enterClockOf, enterClocks}
 use Rattle.journal.specs.Demand.{batch, waiting}
 use Rattle.journal.specs.Account.{memoryBytes, startImages}
 use Rattle.journal.proofs.Folds.{collect-append}
+use Rattle.journal.proofs.Adding.{Each, Adds, none-of, adds-none, Moved, step-adds, register-adds}
 use Rattle.journal.proofs.Agreement.{Agrees, AgreesWith, placed, memories, programmed-agrees}
 use Rattle.journal.proofs.Steps.{take-least, step-agrees}
 use Rattle.journal.proofs.Calls.{idle-latch, timer-agrees, register-agrees, clocks-agree}
@@ -43,7 +44,7 @@ inside-none = record { no-host = refl; no-frame = refl; no-start = refl }
 neither : {X : Type 0} (f : Entry → List X) (xs ys : List Entry) → collect f xs ≡ [] → collect f ys ≡ [] → collect f (xs ++ ys) ≡ []
 neither f xs ys p q = collect-append f xs ys ∙ ap (λ (z : List _). z ++ collect f ys) p ∙ q
 
-pub inside-both : (xs ys : List Entry) → Inside xs → Inside ys → Inside (xs ++ ys)
+inside-both : (xs ys : List Entry) → Inside xs → Inside ys → Inside (xs ++ ys)
 inside-both xs ys a b =
     record {
       no-host = neither (bytesTo e.host) xs ys (a .no-host) (b .no-host);
@@ -51,131 +52,50 @@ inside-both xs ys a b =
       no-start = neither startImages xs ys (a .no-start) (b .no-start);
     }
 
--- A journal went on by such entries, none of which is of memory.
-pub record Adds (j k : Journal) : Type 0 where
-  pub entries : List Entry
-  pub appended : k .entries ≡ j .entries ++ entries
-  pub inside : Inside entries
-  pub no-memory : collect memoryBytes entries ≡ []
-
-pub adds-none : (j k : Journal) → k .entries ≡ j .entries → Adds j k
-unfolding collect
-adds-none j k same = record { entries = []; appended = same ∙ sym (append-nil (j .entries)); inside = inside-none; no-memory = refl }
-
-pub adds-both : {j k l : Journal} → Adds j k → Adds k l → Adds j l
-adds-both {j} {k} {l} a b =
-    record {
-      entries = a .entries ++ b .entries;
-      appended = b .appended ∙ ap (λ (z : List Entry). z ++ b .entries) (a .appended) ∙ append-assoc (j .entries) (a .entries) (b .entries);
-      inside = inside-both (a .entries) (b .entries) (a .inside) (b .inside);
-      no-memory = neither memoryBytes (a .entries) (b .entries) (a .no-memory) (b .no-memory);
-    }
-
--- One entry.
-record Single (x : Entry) : Type 0 where
+-- One such entry, which is not of memory either.
+pub record Apart (x : Entry) : Type 0 where
   of-host : bytesTo e.host x ≡ []
   of-frame : bytesTo e.frame x ≡ []
   of-start : startImages x ≡ []
-  of-memory : memoryBytes x ≡ []
+  pub of-memory : memoryBytes x ≡ []
 
-alone : {X : Type 0} (f : Entry → List X) (x : Entry) → f x ≡ [] → collect f (x ∷ []) ≡ []
-unfolding collect
-alone f x p = ap (λ (z : List _). z ++ []) p
-
-adds-one : (j k : Journal) (x : Entry) → k .entries ≡ j .entries ++ x ∷ [] → Single x → Adds j k
-adds-one j k x is p =
+pub apart-inside : (xs : List Entry) → Each Apart xs → Inside xs
+apart-inside xs each =
     record {
-      entries = x ∷ [];
-      appended = is;
-      inside = record { no-host = alone (bytesTo e.host) x (p .of-host); no-frame = alone (bytesTo e.frame) x (p .of-frame); no-start = alone startImages x (p .of-start) };
-      no-memory = alone memoryBytes x (p .of-memory);
+      no-host = none-of Apart (bytesTo e.host) (λ x p. p .of-host) xs each;
+      no-frame = none-of Apart (bytesTo e.frame) (λ x p. p .of-frame) xs each;
+      no-start = none-of Apart startImages (λ x p. p .of-start) xs each;
     }
 
-offer-adds : (b : ℕ) (j : Journal) → Adds j (offer b j)
-unfolding offer
-offer-adds b j = go (ltb (length (j .held)) 64)
-  where
-    go : (t : Bool) → Adds j (cond t (record { entries = j .entries ++ e.takenIn b ∷ []; held = j .held ++ b ∷ []; base = j .base; count = j .count }) (entered (e.turnedAway b) j))
-    go true = adds-one j _ (e.takenIn b) refl (record { of-host = refl; of-frame = refl; of-start = refl; of-memory = refl })
-    go false = adds-one j _ (e.turnedAway b) refl (record { of-host = refl; of-frame = refl; of-start = refl; of-memory = refl })
+-- Every offer, argument byte and write to a register is such.
+pub moved : Moved Apart
+moved =
+    record {
+      taken-in = λ b. record { of-host = refl; of-frame = refl; of-start = refl; of-memory = refl };
+      turned-away = λ b. record { of-host = refl; of-frame = refl; of-start = refl; of-memory = refl };
+      to-address = λ b. record { of-host = refl; of-frame = refl; of-start = refl; of-memory = refl };
+      to-count = λ b. record { of-host = refl; of-frame = refl; of-start = refl; of-memory = refl };
+      to-checksum = λ b. record { of-host = refl; of-frame = refl; of-start = refl; of-memory = refl };
+      to-flush = λ b. record { of-host = refl; of-frame = refl; of-start = refl; of-memory = refl };
+      flushed = record { of-host = refl; of-frame = refl; of-start = refl; of-memory = refl };
+      began = λ mode lsb msb. record { of-host = refl; of-frame = refl; of-start = refl; of-memory = refl };
+    }
 
-pub offers-add : (bs : List ℕ) (j : Journal) → Adds j (offerAll bs j)
-unfolding offerAll
-offers-add [] j = adds-none j j refl
-offers-add (b ∷ bs) j = adds-both (offer-adds b j) (offers-add bs (offer b j))
-
-leave-adds : (x : ℕ → Entry) → ((b : ℕ) → Single (x b)) → (j : Journal) → Adds j (leave x j)
-unfolding leave
-leave-adds x p j = go (j .held)
-  where
-    go : (h : List ℕ) → Adds j (leaveFrom h x j)
-    go [] = adds-none j j refl
-    go (b ∷ h) = adds-one j _ (x b) refl (p b)
-
-map-adds : (x : ℕ → Entry) → ((b : ℕ) → Single (x b)) → (h : List ℕ) (j k : Journal) → k .entries ≡ j .entries ++ map x h → Adds j k
-map-adds x p [] j k is = adds-none j k (is ∙ append-nil (j .entries))
-map-adds x p (b ∷ h) j k is =
-    let next : Journal = record { entries = j .entries ++ x b ∷ []; held = []; base = 0; count = 0 } in
-    adds-both (adds-one j next (x b) refl (p b)) (map-adds x p h next k (is ∙ sym (append-assoc (j .entries) (x b ∷ []) (map x h))))
-
-flush-adds : (j : Journal) → Adds j (leaveAll (e.left e.flush) e.flushed j)
-unfolding leaveAll
-flush-adds j =
-    let next : Journal = record { entries = j .entries ++ map (e.left e.flush) (j .held); held = []; base = j .base; count = j .count } in
-    adds-both (map-adds (e.left e.flush) (λ b. record { of-host = refl; of-frame = refl; of-start = refl; of-memory = refl }) (j .held) j next refl)
-    (adds-one next _ e.flushed refl (record { of-host = refl; of-frame = refl; of-start = refl; of-memory = refl }))
-
--- Bytes that leave to a command, other than memory bytes.
-abbrev NoMemory : Use → Type 0
-NoMemory address = Unit {0}
-NoMemory number = Unit {0}
-NoMemory key = Unit {0}
-NoMemory checksum = Unit {0}
-NoMemory memory = ⊥
-
-abbrev NoMemories : List Use → Type 0
-NoMemories [] = Unit {0}
-NoMemories (u ∷ us) = NoMemory u × NoMemories us
-
-use-adds : (u : Use) → NoMemory u → (j : Journal) → Adds j (leaveAs u j)
-unfolding leaveAs
-use-adds address p j = leave-adds (e.left e.address) (λ b. record { of-host = refl; of-frame = refl; of-start = refl; of-memory = refl }) j
-use-adds number p j = leave-adds (e.left e.count) (λ b. record { of-host = refl; of-frame = refl; of-start = refl; of-memory = refl }) j
-use-adds key p j = leave-adds (e.left e.key) (λ b. record { of-host = refl; of-frame = refl; of-start = refl; of-memory = refl }) j
-use-adds checksum p j = leave-adds (e.left e.checksum) (λ b. record { of-host = refl; of-frame = refl; of-start = refl; of-memory = refl }) j
-use-adds memory p j = absurd p
-
-uses-add : (us : List Use) → NoMemories us → (j : Journal) → Adds j (leaveAllAs us j)
-unfolding leaveAllAs
-uses-add [] p j = adds-none j j refl
-uses-add (u ∷ us) (p, ps) j = adds-both (use-adds u p j) (uses-add us ps (leaveAs u j))
-
-repeated : (n : ℕ) (u : Use) → NoMemory u → NoMemories (replicate n u)
-repeated zero u p = tt
-repeated (suc n) u p = (p, repeated n u p)
-
-wanted-none : (t : Bool) (us : List Use) → NoMemories us → NoMemories (cond t us [])
-wanted-none true us p = p
-wanted-none false us p = tt
-
-based-adds : (c : Command) (before j : Journal) → Adds j (basedBy c before j)
-based-adds c before j = within-write-e2 (λ k. Adds j k) (λ w. basedWithin w before j) j c (λ w is. go w) (adds-none j j refl)
-  where
-    choice : (t : Bool) → Adds j (cond t (based (addressHeld before) j) j)
-    choice true = adds-none j _ refl
-    choice false = adds-none j j refl
-
-    go : (w : Writing) → Adds j (basedWithin w before j)
-    go addressing = choice (leb 2 (length (before .held)))
-    go (ready a) = adds-none j j refl
-    go (programming a bs left) = adds-none j j refl
-
--- One step of a command that takes no memory byte.
 abbrev stepOf : Command → List ℕ → Journal → Journal
 stepOf c eeprom j = offerAll (offersOf c eeprom j) (basedBy c j (leaveAllAs (usesOf c (length (j .held))) j))
 
-step-adds : (c : Command) (eeprom : List ℕ) (j : Journal) → NoMemories (usesOf c (length (j .held))) → Adds j (stepOf c eeprom j)
-step-adds c eeprom j p = adds-both (adds-both (uses-add (usesOf c (length (j .held))) p j) (based-adds c j _)) (offers-add (offersOf c eeprom j) _)
+-- One step of a command that takes no memory byte: all but a WriteE2 whose address is known.
+abbrev readyNow : Writing → Bool
+readyNow addressing = false
+readyNow (ready a) = true
+readyNow (programming a bs left) = false
+
+abbrev isReady : Command → Bool
+isReady c = withinWriteE2 readyNow false c
+
+plain-step : (c : Command) (eeprom : List ℕ) (j : Journal) → isReady c ≡ false → Adds Apart j (stepOf c eeprom j)
+plain-step c eeprom j other =
+    step-adds Apart moved c eeprom j (λ is b. record { of-host = refl; of-frame = refl; of-start = refl; of-memory = refl }) (λ a is. absurd (true≢false (sym (ap isReady is) ∙ other)))
 
 -- A journal went on under a command, to another: the memory bytes that waited, and those that left, are those that wait then.
 pub record Enters (c : Command) (j : Journal) (c′ : Command) (k : Journal) : Type 0 where
@@ -184,13 +104,13 @@ pub record Enters (c : Command) (j : Journal) (c′ : Command) (k : Journal) : T
   pub inside : Inside entries
   pub waits : waiting c ++ collect memoryBytes entries ≡ waiting c′
 
-pub enters-plain : {c c′ : Command} {j k : Journal} → Adds j k → waiting c ≡ waiting c′ → Enters c j c′ k
+pub enters-plain : {c c′ : Command} {j k : Journal} → Adds Apart j k → waiting c ≡ waiting c′ → Enters c j c′ k
 enters-plain {c} {c′} a same =
     record {
       entries = a .entries;
       appended = a .appended;
-      inside = a .inside;
-      waits = ap (λ (z : List Byte). waiting c ++ z) (a .no-memory) ∙ append-nil (waiting c) ∙ same;
+      inside = apart-inside (a .entries) (a .each);
+      waits = ap (λ (z : List Byte). waiting c ++ z) (none-of Apart memoryBytes (λ x p. p .of-memory) (a .entries) (a .each)) ∙ append-nil (waiting c) ∙ same;
     }
 
 enters-both : {c d f : Command} {j k l : Journal} → Enters c j d k → Enters d k f l → Enters c j f l
@@ -232,24 +152,21 @@ module _ (image : List ℕ) where
   unfolding leaveAllAs
   latch-enters s m j is a = go (enough 1 m) refl
     where
-      h : List ℕ
-      h = m .held
-
       n : ℕ
       n = min (roomInBlock s) (length (j .held))
 
       here : Agrees image (m .held) (WriteE2 (ready s)) (m .checksum) (m .eeprom) (m .status .errors .keyErr) j
       here = subst (λ (c : Command). Agrees image (m .held) c (m .checksum) (m .eeprom) (m .status .errors .keyErr) j) is a
 
-      none : (t : Bool) → n ≡ 0 → Adds j (leaveAllAs (cond t (replicate n memory) []) j)
-      none true zero-left = subst (λ (k : ℕ). Adds j (leaveAllAs (replicate k memory) j)) (sym zero-left) (adds-none j j refl)
-      none false zero-left = adds-none j j refl
+      none : (t : Bool) → n ≡ 0 → Adds Apart j (leaveAllAs (cond t (replicate n memory) []) j)
+      none true zero-left = subst (λ (k : ℕ). Adds Apart j (leaveAllAs (replicate k memory) j)) (sym zero-left) (adds-none Apart j j refl)
+      none false zero-left = adds-none Apart j j refl
 
       latches : (t : Bool) → ltb s 0x10 ≡ t →
           Enters Idle j ((cond t (ended (withAccessErr m)) (withCommand (WriteE2 (programming s (take (roomInBlock s) (m .held)) programmingClocks)) (taken (roomInBlock s) m))) .command)
           (leaveAllAs (cond (leb 0x10 s) (replicate n memory) []) j)
       latches true low =
-          subst (λ (u : Bool). Enters Idle j Idle (leaveAllAs (cond u (replicate n memory) []) j)) (sym (lt-leb 0x10 s (ltb-true s 0x10 low))) (enters-plain (adds-none j j refl) refl)
+          subst (λ (u : Bool). Enters Idle j Idle (leaveAllAs (cond u (replicate n memory) []) j)) (sym (lt-leb 0x10 s (ltb-true s 0x10 low))) (enters-plain (adds-none Apart j j refl) refl)
       latches false high =
           let up : 0x10 ≤ s = ltb-false s 0x10 high in
           let place : j .base + j .count ≡ s = omega (arith, here .same-place .0, here .same-place .1) in
@@ -273,26 +190,20 @@ module _ (image : List ℕ) where
 
   step-as : (c : Command) (m : Machine) (j : Journal) → m .command ≡ c → AgreesWith image m j → Enters c j (steppedAs c m .command) (stepOf c (m .eeprom) j)
   unfolding offerAll
-  step-as Idle m j is a = enters-plain (step-adds Idle (m .eeprom) j tt) (sym (ap waiting is))
-  step-as (WriteE2 addressing) m j is a =
-      enters-plain (step-adds (WriteE2 addressing) (m .eeprom) j (wanted-none (leb 2 (length (j .held))) _ (tt, (tt, tt)))) (sym (choose NoneWait (enough 2 m) refl (ap waiting is)))
+  step-as Idle m j is a = enters-plain (plain-step Idle (m .eeprom) j refl) (sym (ap waiting is))
+  step-as (WriteE2 addressing) m j is a = enters-plain (plain-step (WriteE2 addressing) (m .eeprom) j refl) (sym (choose NoneWait (enough 2 m) refl (ap waiting is)))
   step-as (WriteE2 (ready s)) m j is a =
       let l = latch-enters s m j is a in record { entries = l .entries; appended = l .appended; inside = l .inside; waits = l .waits }
-  step-as (WriteE2 (programming s bs left)) m j is a = enters-plain (step-adds (WriteE2 (programming s bs left)) (m .eeprom) j tt) (sym (ap waiting is))
-  step-as ReadE2 m j is a =
-      enters-plain (step-adds ReadE2 (m .eeprom) j (wanted-none (leb 3 (length (j .held))) _ (tt, (tt, (tt, tt))))) (sym (choose NoneWait (enough 3 m) refl (ap waiting is)))
-  step-as LoadConfig m j is a =
-      enters-plain (step-adds LoadConfig (m .eeprom) j (wanted-none (leb 2 (length (j .held))) _ (tt, (tt, tt)))) (sym (choose NoneWait (enough 2 m) refl (ap waiting is)))
-  step-as LoadKeyE2 m j is a =
-      enters-plain (step-adds LoadKeyE2 (m .eeprom) j (wanted-none (leb 2 (length (j .held))) _ (tt, (tt, tt)))) (sym (choose NoneWait (enough 2 m) refl (ap waiting is)))
-  step-as LoadKey m j is a =
-      enters-plain (step-adds LoadKey (m .eeprom) j (wanted-none (leb 12 (length (j .held))) _ (repeated 12 key tt))) (sym (choose NoneWait (enough 12 m) refl (ap waiting is)))
-  step-as CalcCRC m j is a =
-      enters-plain (step-adds CalcCRC (m .eeprom) j (repeated (length (j .held)) checksum tt)) (sym (choose NoneWait (enough 1 m) (ap waiting is) (ap waiting is)))
-  step-as Transmit m j is a = enters-plain (step-adds Transmit (m .eeprom) j tt) (sym (ap waiting is))
-  step-as Receive m j is a = enters-plain (step-adds Receive (m .eeprom) j tt) (sym (ap waiting is))
-  step-as TransceiveSending m j is a = enters-plain (step-adds TransceiveSending (m .eeprom) j tt) (sym (ap waiting is))
-  step-as TransceiveReceiving m j is a = enters-plain (step-adds TransceiveReceiving (m .eeprom) j tt) (sym (ap waiting is))
+  step-as (WriteE2 (programming s bs left)) m j is a = enters-plain (plain-step (WriteE2 (programming s bs left)) (m .eeprom) j refl) (sym (ap waiting is))
+  step-as ReadE2 m j is a = enters-plain (plain-step ReadE2 (m .eeprom) j refl) (sym (choose NoneWait (enough 3 m) refl (ap waiting is)))
+  step-as LoadConfig m j is a = enters-plain (plain-step LoadConfig (m .eeprom) j refl) (sym (choose NoneWait (enough 2 m) refl (ap waiting is)))
+  step-as LoadKeyE2 m j is a = enters-plain (plain-step LoadKeyE2 (m .eeprom) j refl) (sym (choose NoneWait (enough 2 m) refl (ap waiting is)))
+  step-as LoadKey m j is a = enters-plain (plain-step LoadKey (m .eeprom) j refl) (sym (choose NoneWait (enough 12 m) refl (ap waiting is)))
+  step-as CalcCRC m j is a = enters-plain (plain-step CalcCRC (m .eeprom) j refl) (sym (choose NoneWait (enough 1 m) (ap waiting is) (ap waiting is)))
+  step-as Transmit m j is a = enters-plain (plain-step Transmit (m .eeprom) j refl) (sym (ap waiting is))
+  step-as Receive m j is a = enters-plain (plain-step Receive (m .eeprom) j refl) (sym (ap waiting is))
+  step-as TransceiveSending m j is a = enters-plain (plain-step TransceiveSending (m .eeprom) j refl) (sym (ap waiting is))
+  step-as TransceiveReceiving m j is a = enters-plain (plain-step TransceiveReceiving (m .eeprom) j refl) (sym (ap waiting is))
 
   step-enters : (m : Machine) (j : Journal) → AgreesWith image m j → Enters (m .command) j (stepped m .command) (enterStep m j)
   unfolding stepped enterStep
@@ -302,24 +213,7 @@ module _ (image : List ℕ) where
   unfolding settled enterSettled
   settle-enters m j a = enters-both (step-enters m j a) (step-enters (stepped m) (enterStep m j) (step-agrees image m j a))
 
-  -- A write to a register.
-  one-of : (j : Journal) (t : Bool) (x y : Journal) → Adds j x → Adds j y → Adds j (cond t x y)
-  one-of j true x y p q = p
-  one-of j false x y p q = q
-
-  begun-adds : (c : Command) (m : Machine) (j : Journal) → Adds j (begun c m j)
-  begun-adds c m j =
-      let x = e.calcCRC (registerAt m 0x22) (registerAt m 0x23) (registerAt m 0x24) in
-      one-of j (eqb (codeOf c) 0x12) (entered x j) j (adds-one j (entered x j) x refl (record { of-host = refl; of-frame = refl; of-start = refl; of-memory = refl })) (adds-none j j refl)
-
-  register-adds : (r v : ℕ) (m : Machine) (j : Journal) → Adds j (enterRegister r v m j)
-  register-adds r v m j =
-      one-of j (eqb (r % 8) 0) j _ (adds-none j j refl)
-      (one-of j (eqb r 0x01) (enterCommand v m j) _ (one-of j (programs (m .command)) j _ (adds-none j j refl) (begun-adds (commandWritten v m .command) m j))
-      (one-of j (eqb r 0x02) (offer v j) _ (offer-adds v j)
-      (one-of j (eqb r 0x09) _ j (one-of j (bitSet v 0) _ j (flush-adds j) (adds-none j j refl)) (adds-none j j refl))))
-
-  -- The same bytes wait after it.
+  -- A write to a register: the same bytes wait after it.
   module _ (m : Machine) where
     abbrev Waits : Machine → Type 0
     Waits n = waiting (n .command) ≡ waiting (m .command)
@@ -382,7 +276,7 @@ module _ (image : List ℕ) where
   pub written-enters : (r v : ℕ) (m : Machine) (j : Journal) → AgreesWith image m j → Enters (m .command) j (settled (registerWritten r v m) .command) (enterWritten r v m j)
   unfolding enterWritten
   written-enters r v m j a =
-      enters-both (enters-plain (register-adds r v m j) (sym (register-waits m r v))) (settle-enters (registerWritten r v m) (enterRegister r v m j) (register-agrees image r v m j a))
+      enters-both (enters-plain (register-adds Apart moved r v m j) (sym (register-waits m r v))) (settle-enters (registerWritten r v m) (enterRegister r v m j) (register-agrees image r v m j a))
 
   -- Clocks by which no programming ends.
   quiet-clock : (c : Command) (m : Machine) (j : Journal) → programs c ≡ false → enterClockOf c m j ≡ j
@@ -427,7 +321,7 @@ module _ (image : List ℕ) where
           (subst (λ (c : Command). Agrees image (m .held) c (m .checksum) (m .eeprom) (m .status .errors .keyErr) j) is a)
 
       go : (t : Bool) → Enters Idle j ((cond t (raisedTx (batchStored s bs m)) (settled (batchStored s bs m))) .command) (cond t j (enterSettled (batchStored s bs m) j))
-      go true = enters-plain (adds-none j j refl) refl
+      go true = enters-plain (adds-none Apart j j refl) refl
       go false = let l = settle-enters (batchStored s bs m) j stored in record { entries = l .entries; appended = l .appended; inside = l .inside; waits = l .waits }
 
   -- An advance that ends a programming.

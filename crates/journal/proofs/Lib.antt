@@ -1,4 +1,5 @@
 pub mod Folds
+pub mod Adding
 pub mod Moves
 pub mod Agreement
 pub mod Steps

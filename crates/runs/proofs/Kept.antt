@@ -2,7 +2,7 @@
 -- Assumes nothing.
 use mathlib.Core.Path.{_≡_, refl, sym, ap, _∙_, subst}
 use mathlib.Core.Bool.{Bool, true, false, cond, not}
-use mathlib.Core.List.{List, [], _∷_, map}
+use mathlib.Core.List.{List, []}
 use Prim.Native.Nat.{ℕ, zero, suc}
 use native.Mathlib.Omega.{arith}
 use lib.Dec.{eqb}
@@ -13,7 +13,7 @@ use Rattle.machine.specs.Refusals.{Call, start, hostRead, hostWrite, advance, t
 use Rattle.machine.specs.Events.{Outcome, perform, started}
 use Rattle.machine.proofs.Performing.{as-accepted}
 use Rattle.machine.proofs.WellFormed.Kept.{well-formedness}
-use Rattle.journal.specs.Journal.{Journal, Both, empty, called, after}
+use Rattle.journal.specs.Journal.{Both, empty, called, after}
 use Rattle.journal.specs.Demand.{run, Conserved, NextCall}
 use Rattle.journal.specs.Account.{Accounted}
 use Rattle.journal.proofs.Agreement.{AgreesWith}

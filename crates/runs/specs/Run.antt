@@ -8,7 +8,7 @@ use mathlib.Core.Path.{_≡_}
 use Rattle.machine.specs.State.{Machine}
 use Rattle.machine.specs.Refusals.{Call, start, hostRead, hostWrite, advance, takeFrame, deliver}
 use Rattle.machine.specs.Events.{perform}
-use Rattle.journal.specs.Journal.{Both, called, after}
+use Rattle.journal.specs.Journal.{Both, called}
 use Rattle.journal.specs.Demand.{run, Conserved, NextCall}
 use Rattle.journal.specs.Account.{Accounted}
 use Rattle.state.specs.View.{view}

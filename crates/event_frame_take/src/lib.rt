@@ -13,7 +13,7 @@ ghost use Rattle.state.specs.Turns.{Reads};
 ghost use Rattle.state.specs.Meets.{Promises};
 ghost use Rattle.state.specs.declared.Chip.{Chip};
 ghost use Rattle.event_frame_take.specs.Front.{atFront, Put, checksumBytes};
-use lengths::least;
+use frame_lengths::least;
 use sent::taken;
 use state::BIT_FRAMING;
 use state::READ;

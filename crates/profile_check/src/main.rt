@@ -37,7 +37,7 @@ fn read_input(buffer: &mut [u8]) -> Input
 // Writes the verdict on a profile.
 fn answer(profile: &[u8]) {
     let mut line = [0u8; 32];
-    let end = verdict_line::write_line(profile::check(profile), &mut line);
+    let end = profile_line::write_line(profile::check(profile), &mut line);
     if !io::write_all(STDOUT_FILENO, &line[..end]) {
         os::fail(b"profile_check: standard output");
     }

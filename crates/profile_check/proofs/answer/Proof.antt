@@ -4,7 +4,7 @@ use mathlib.Core.Path.{sym}
 use Prim.Native.Nat.{_≤_}
 use lib.ListN.{length}
 use lib.Seq.{length-take-le}
-use Rattle.verdict_line.proofs.Laws.{line-within}
+use Rattle.profile_line.proofs.Laws.{line-within}
 use Rattle.profile_check.proofs.answer.Statement.{statement}
 use Rattle.profile_check.proofs.answer.Tie as tie
 

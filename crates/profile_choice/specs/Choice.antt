@@ -1,0 +1,47 @@
+-- The choice of profile for a safe start, document 01, "Profiles": "gets two 512-byte images and hands back bytes 010h-02Fh of the user's
+-- image if they pass, else of the rescue image". It "gives 2 or 8 only".
+-- Assumes nothing.
+use Prim.Native.Nat.{ℕ}
+use mathlib.Core.Bool.{Bool, _&&_, cond}
+use mathlib.Core.List.{List, []}
+use lib.Dec.{eqb}
+use lib.ListN.{length, take, drop}
+use Rattle.profile.specs.Answer.{isPass}
+use Rattle.profile.specs.FixedBits.{fixedBits}
+use Rattle.profile.specs.Check.{judged}
+use Rattle.profile_choice.specs.declared.Choice.{Choice}
+use Rattle.profile_choice.specs.declared.Choice.the-variants.{User, Rescue, ImageLength, BothFail}
+
+-- The start-up profile of an image: its bytes 010h-02Fh.
+abbrev pub startUpProfile : List ℕ → List ℕ
+startUpProfile image = take 0x20 (drop 0x10 image)
+
+-- The image's start-up profile passes the check.
+unfoldable pub passing : List ℕ → Bool
+passing image = isPass (judged fixedBits (startUpProfile image))
+
+-- Whose profile is chosen, or the number of the refusal.
+pub data Chosen : Type 0 where
+  from-user : Chosen
+  from-rescue : Chosen
+  refused : ℕ → Chosen
+
+-- 2: an image is not 512 bytes, either one. 8: both profiles fail.
+abbrev pub chosen : List ℕ → List ℕ → Chosen
+chosen user rescue =
+    cond (eqb (length user) 512 && eqb (length rescue) 512)
+    (cond (passing user) from-user (cond (passing rescue) from-rescue (refused 8)))
+    (refused 2)
+
+-- The part of what was lent that is handed back; a refusal hands back nothing, the empty part.
+abbrev pub partOf : Chosen → List ℕ → List ℕ → List ℕ
+partOf from-user user rescue = startUpProfile user
+partOf from-rescue user rescue = startUpProfile rescue
+partOf (refused n) user rescue = []
+
+-- Document 01's meaning of each case of the program's enum.
+abbrev pub chosenOf : Choice → Chosen
+chosenOf User = from-user
+chosenOf Rescue = from-rescue
+chosenOf ImageLength = refused 2
+chosenOf BothFail = refused 8

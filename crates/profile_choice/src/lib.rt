@@ -1,0 +1,61 @@
+// The choice of profile for a safe start: the user's start-up profile where it passes the check, else the rescue image's.
+//
+// An enum cannot hold a reference, so the answer stands in two functions over the same images: `choose` says whose profile it is or why
+// there is none, and `chosen` hands back that part of what was lent. A profile is always 32 bytes and a refusal the empty part.
+ghost use mathlib.Core.Path.{_≡_};
+ghost use lib.ListN.{length};
+ghost use Rattle.profile_choice.specs.Choice.{passing, chosenOf, partOf};
+ghost use Rattle.profile_choice.specs.Choice.{chosen as Choice·chosen};
+use profile::Verdict;
+
+pub enum Choice {
+    User,
+    Rescue,
+    // 2: an image is not 512 bytes.
+    ImageLength,
+    // 8: the user's profile and the rescue profile both fail.
+    BothFail,
+}
+
+// The image's bytes 010h-02Fh pass the check.
+fn passes(image: &[u8]) -> bool
+    requires { ⌜ length (now image) ≡ 512 ⌝ }
+    ensures { λ r. ⌜ r ≡ passing (now (image .entry)) ⌝ }
+{
+    let verdict = profile::check(&image[0x10..0x30]);
+    match verdict {
+        Verdict::Pass => true,
+        Verdict::Refused(_) => false,
+    }
+}
+
+// Whose start-up profile is chosen, or the refusal.
+pub fn choose(user: &[u8], rescue: &[u8]) -> Choice
+    ensures { λ r. ⌜ chosenOf r ≡ Choice·chosen (now (user .entry)) (now (rescue .entry)) ⌝ }
+{
+    if user.len() != 512 {
+        return Choice::ImageLength;
+    }
+    if rescue.len() != 512 {
+        return Choice::ImageLength;
+    }
+    if passes(user) {
+        return Choice::User;
+    }
+    if passes(rescue) {
+        return Choice::Rescue;
+    }
+    Choice::BothFail
+}
+
+// The chosen profile, as a part of the image that it stands in; the empty part where there is none.
+pub fn chosen<'a>(user: &'a [u8], rescue: &'a [u8]) -> &'a [u8]
+    ensures { λ r. ⌜ now r ≡ partOf (Choice·chosen (now (user .entry)) (now (rescue .entry))) (now (user .entry)) (now (rescue .entry)) ⌝ }
+{
+    match choose(user, rescue) {
+        Choice::User => &user[0x10..0x30],
+        Choice::Rescue => &rescue[0x10..0x30],
+        Choice::ImageLength => &user[0..0],
+        Choice::BothFail => &user[0..0],
+    }
+}

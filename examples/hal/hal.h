@@ -1,0 +1,191 @@
+/* The hardware layer under firmware: registers on a bus, the IRQ pin, a delay, and a card in the field.
+ *
+ * Firmware of a card reader writes registers, then waits in a loop until a register or a pin shows that something happened. It makes no call
+ * that takes or delivers a frame, and none that passes time. This layer does it for the firmware, over the six calls of include/mfrc531.h:
+ *
+ * Time. Each ReadIO, each WriteIO and each look at the IRQ pin passes access_clocks, and a delay passes its own. The access itself comes at
+ * the end of its clocks. Nothing else passes time: what the firmware computes in between costs nothing.
+ *
+ * Sending. A frame leaves at the first poll that finds Transmit or Transceive active with bytes in the FIFO. A poll is
+ *   - a ReadIO of Command, PrimaryStatus, FIFOLength, SecondaryStatus, InterruptRq, ErrorFlag, CollPos or TimerValue, by the register that
+ *     Page makes of the address;
+ *   - a look at the IRQ pin;
+ *   - a delay, also one of 0 microseconds.
+ * The frame leaves at the begin of the poll, before its clocks, so that the poll shows TxIRq, and a timer with TStartTxEnd runs from there.
+ * Sending takes no clocks. A write is no poll, and neither is a read of FIFOData, InterruptEn, Control, BitFraming or a register from 10h on:
+ * firmware may write Command before the bytes, and change single bits of a register in between. A Command written before any poll ends the
+ * sending, and the bytes stay in the FIFO.
+ *
+ * Receiving. The card is asked when the frame leaves, and its answer is delivered so many clocks later as it says, in the middle of an access
+ * or a delay if that is where they end. If the chip does not receive at that clock (Receive, or Transceive after its frame), or another frame
+ * left meanwhile, the answer is missed, as a real chip would miss it: it is counted in answers_missed and traced.
+ *
+ * Refusals. No answer of the library is dropped: a refused call goes to the hook `refused`, or, where there is none, is written to standard
+ * error with its reason, and the program aborts.
+ */
+#ifndef HAL_H
+#define HAL_H
+
+#include <mfrc531.h>
+
+#include <stdbool.h>
+
+#ifdef __cplusplus
+extern "C" {
+#endif
+
+/* ---- For the firmware: four functions ------------------------------------------------------------------------------------------------ */
+
+/* One read or write on the bus of the chip in use. The address goes to the chip as it is: firmware that selects pages writes Page (00h) by
+ * WriteIO, and firmware with linear addresses writes 00h there once, since Page is 80h after a start. A refused read gives 00h. */
+uint8_t ReadIO(uint8_t address);
+void WriteIO(uint8_t address, uint8_t value);
+
+/* The level of pin IRQ, 1 high or 0 low: IRq of PrimaryStatus, inverted where IRQInv (2Dh bit 1) is set, as it is in the shipped profile.
+ * IRQPushPull (2Dh bit 0) decides only who drives the high level, and changes nothing here. */
+int hal_irq_pin(void);
+
+/* Waits so many microseconds. A microsecond is 13.56 clocks: what is left of a clock is kept for the next delay, so that a hundred delays of
+ * one microsecond pass 1,356 clocks. */
+void hal_delay(uint32_t microseconds);
+
+/* ---- For the program around it: a chip, a card, hooks -------------------------------------------------------------------------------- */
+
+enum {
+    HAL_SENT_BYTES = 66,   /* the longest frame sent: 64 bytes and a CRC */
+    HAL_ANSWER_BYTES = 64, /* the longest frame received */
+
+    /* A bus access. By the data sheet (table 158) a strobe is low for 65 ns and then high for 150 ns at least: 3 clocks is the shortest. The
+     * bus is rarely the limit: an 8051 at 12 MHz takes 24 of its clocks for one MOVX, 2 microseconds or 27 clocks of 13.56 MHz. */
+    HAL_ACCESS_CLOCKS = 27,
+
+    /* An answer. ISO/IEC 14443-3 gives a card of type A 1,236 clocks from the last pause of a frame whose last bit is 1, and 1,172 else. */
+    HAL_ANSWER_CLOCKS = 1236
+};
+
+/* A frame that the chip has sent, with its CRC if one was added. Of the last byte, last_bits bits count (0: all). */
+struct hal_frame {
+    uint8_t bytes[HAL_SENT_BYTES];
+    size_t count;
+    uint8_t last_bits;
+};
+
+/* What a card answers. The layer hands it over as no answer, with HAL_ANSWER_CLOCKS; a card fills in the rest. */
+struct hal_answer {
+    uint8_t bytes[HAL_ANSWER_BYTES]; /* with the CRC, if the card sends one */
+    size_t count;                    /* 0: no answer */
+    uint8_t last_bits;               /* of the last byte so many bits count (0: all) */
+    uint32_t clocks;                 /* from the end of the chip's frame until the chip has the whole answer */
+    uint64_t inverted_parities;      /* bit n: byte n comes with the wrong parity bit */
+};
+
+/* A card. It may keep anything in its context; it may not call the firmware or this layer. Its parity bits are made by the layer, to fit bit 1
+ * (odd) of ChannelRedundancy when the answer is delivered. */
+typedef void (*hal_card)(void *context, const struct hal_frame *sent, struct hal_answer *answer);
+
+/* Adds the CRC of ISO/IEC 14443-3 type A to an answer, low byte first. Where it has no room the answer becomes longer than 64 bytes, which is
+ * refused when it is handed back. */
+void hal_append_crc_a(struct hal_answer *answer);
+
+struct hal;
+
+/* A refused call: its name and its argument (an address, a count or clocks), and the number of the refusal. */
+typedef void (*hal_refused)(void *context, const char *call, uint32_t argument, uint8_t refusal);
+
+/* The reason in words. */
+const char *hal_refusal_text(uint8_t refusal);
+
+/* What happens in the field, for a log: hal->clocks says when. */
+enum hal_event { HAL_FRAME_SENT, HAL_ANSWER_RECEIVED, HAL_ANSWER_MISSED };
+typedef void (*hal_trace)(void *context, const struct hal *hal, enum hal_event event, const uint8_t *bytes, size_t count, uint8_t last_bits);
+
+struct hal {
+    mfrc531_chip chip;       /* to look at; the layer changes it by the six calls alone */
+    uint64_t clocks;         /* passed since hal_prepare */
+    uint64_t answers_missed; /* how many answers came when the chip did not receive */
+
+    /* To be set after hal_prepare, and at any time. */
+    uint32_t access_clocks;  /* of one access. With 0 only delays pass time, and a loop that waits for the timer by reads alone never ends */
+    hal_card card;           /* null: no card in the field */
+    void *card_context;
+    hal_refused refused;     /* null: the reason on standard error, and abort */
+    hal_trace trace;         /* null: none */
+    void *hook_context;      /* of refused and trace */
+
+    /* The layer's own. */
+    uint32_t part_of_clock;  /* hundredths of a clock that delays have left over */
+    bool answering;          /* an answer is under way */
+    uint32_t answer_left;    /* in so many clocks it is there */
+    struct hal_answer answer;
+};
+
+/* Sets everything to 0 but access_clocks, and makes this the one in use. */
+void hal_prepare(struct hal *hal);
+
+/* Power on: the chip starts from an EEPROM image of 512 bytes. An answer under way is missed. The clocks go on. */
+void hal_start(struct hal *hal, const uint8_t *image, size_t length);
+
+/* A pulse on RSTPD: the chip starts from its own EEPROM. */
+void hal_reset(struct hal *hal);
+
+/* Which one ReadIO, WriteIO, hal_irq_pin and hal_delay speak to, in this thread. */
+void hal_use(struct hal *hal);
+
+/* ---- Registers and bits, by the data sheet's names ----------------------------------------------------------------------------------- */
+
+enum {
+    HAL_REG_PAGE = 0x00,
+    HAL_REG_COMMAND = 0x01,
+    HAL_REG_FIFO_DATA = 0x02,
+    HAL_REG_PRIMARY_STATUS = 0x03,
+    HAL_REG_FIFO_LENGTH = 0x04,
+    HAL_REG_SECONDARY_STATUS = 0x05,
+    HAL_REG_INTERRUPT_EN = 0x06,
+    HAL_REG_INTERRUPT_RQ = 0x07,
+    HAL_REG_CONTROL = 0x09,
+    HAL_REG_ERROR_FLAG = 0x0A,
+    HAL_REG_COLL_POS = 0x0B,
+    HAL_REG_TIMER_VALUE = 0x0C,
+    HAL_REG_BIT_FRAMING = 0x0F,
+    HAL_REG_CHANNEL_REDUNDANCY = 0x22,
+    HAL_REG_TIMER_CLOCK = 0x2A,
+    HAL_REG_TIMER_CONTROL = 0x2B,
+    HAL_REG_TIMER_RELOAD = 0x2C,
+    HAL_REG_IRQ_PIN_CONFIG = 0x2D
+};
+
+enum {
+    HAL_COMMAND_IDLE = 0x00,
+    HAL_COMMAND_WRITE_E2 = 0x01,
+    HAL_COMMAND_READ_E2 = 0x03,
+    HAL_COMMAND_RECEIVE = 0x16,
+    HAL_COMMAND_TRANSMIT = 0x1A,
+    HAL_COMMAND_TRANSCEIVE = 0x1E
+};
+
+enum {
+    HAL_IRQ_SET = 0x80, /* InterruptEn and InterruptRq: a write sets the marked bits, else clears them */
+    HAL_IRQ_TIMER = 0x20,
+    HAL_IRQ_TX = 0x10,
+    HAL_IRQ_RX = 0x08,
+    HAL_IRQ_IDLE = 0x04,
+    HAL_IRQ_ALL = 0x3F,
+    HAL_PRIMARY_STATUS_IRQ = 0x08,
+    HAL_SECONDARY_STATUS_E2_READY = 0x40,
+    HAL_SECONDARY_STATUS_RX_LAST_BITS = 0x07,
+    HAL_CONTROL_TIMER_STOP_NOW = 0x04,
+    HAL_CONTROL_FLUSH_FIFO = 0x01,
+    HAL_ERROR_ACCESS = 0x20,
+    HAL_ERROR_FIFO_OVERFLOW = 0x10,
+    HAL_ERROR_CRC = 0x08,
+    HAL_ERROR_PARITY = 0x02,
+    HAL_TIMER_STOP_RX_BEGIN = 0x04,
+    HAL_TIMER_START_TX_END = 0x02,
+    HAL_IRQ_PIN_INVERTED = 0x02,
+    HAL_PARITY_ODD = 0x02 /* ChannelRedundancy */
+};
+
+#ifdef __cplusplus
+}
+#endif
+#endif

@@ -1,10 +1,35 @@
 /* The reader bench: an MFRC531 card-reader chip in software.
  *
- * The functions are proved: for every chip, argument and buffer each one ends, and its answer, the next chip and every byte lent are those of
- * the definitions in crates/machine/specs. What is not proved is this header, the C compiler, and that the pointers are good.
+ * The functions of the library are proved: for every chip, argument and buffer each one ends, and what it answers and leaves in memory is what
+ * the definitions in crates/machine/specs give. What is not proved is this header, with the functions that stand in it, the C compiler, and that
+ * the pointers are good.
  *
  * Any bytes are a valid argument, a chip's among them: memory that is no chip's state gets refusal 7 and stays as it is. A null pointer, or
  * one to less memory than its length says, is the caller's fault, as with memcpy. Memory lent to one call may not overlap.
+ *
+ * A refused call changes nothing: the chip and every buffer are bit for bit as before, and the answer is the refusal's number alone (for a
+ * profile with its register and bit). So look at the answer of each call; a refused one has not happened.
+ *
+ * What a driver written for the chip has to know besides:
+ *
+ * Start. A chip is whatever memory you pass. mfrc531_start makes any memory a chip, and no other call asks whether there was a start. Zeros are
+ * a well-formed chip, Idle and with zeros for registers and EEPROM: with a static mfrc531_chip a forgotten start goes unnoticed, as calls are
+ * accepted like those of any chip. It shows only in the registers: Page is 00h and ErrorFlag 00h, where a start leaves 80h and 40h.
+ *
+ * Page. A start leaves Page at 80h: UsePageSelect is set and PageSelect 0, so only the three low bits of an address count and they reach
+ * registers 00h-07h. Address 22h then is FIFOData (02h), not ChannelRedundancy. Write 00h to Page first, and addresses are linear.
+ *
+ * Time. Only mfrc531_advance gives the chip clocks. Reads, writes, takes and deliveries take no time, however many there are: a loop that polls
+ * E2Ready or TimerIRq ends only if it advances too. EEPROM programming lasts MFRC531_PROGRAMMING_CLOCKS, more than one advance may give.
+ *
+ * Frames. Transmit and Transceive send nothing by themselves. The frame is what the FIFO holds when you call mfrc531_take, so take once all bytes
+ * are written; TxIRq and the timer's start by TStartTxBegin or TStartTxEnd come with the take. Transceive receives from then on, Receive at
+ * once: mfrc531_deliver brings the card's answer. A card that stays silent is no delivery; advance, and let the timer run out.
+ *
+ * Alerts. LoAlertIRq and HiAlertIRq are judged over a whole call: set where LoAlert or HiAlert was 0 before it and is 1 after it. What the FIFO
+ * held in between counts for nothing, such as a byte that CalcCRC takes in the call that writes it.
+ *
+ * Where the bench and the chip differ, and why, is docs/MANUAL.md, section 14 "Differences from the chip"; calls and time are its section 9.
  *
  * x86-64, System V calling convention. Nothing here allocates, blocks, prints or keeps state outside the chip. Two threads may call at the
  * same time on two chips.
@@ -14,6 +39,24 @@
 
 #include <stddef.h>
 #include <stdint.h>
+
+/* The version of this header and of the library. MINOR rises with each request that lands (docs/landings) and 11 stands for R-11, the latest;
+ * with a new MINOR compile firmware again, as the chip's layout may have changed. PATCH rises with any other change. MAJOR is 0 until the layout
+ * is final; from then on it rises when a name, the layout or an answer changes, so that firmware has to be looked at. */
+#define MFRC531_VERSION_MAJOR 0
+#define MFRC531_VERSION_MINOR 11
+#define MFRC531_VERSION_PATCH 0
+#define MFRC531_VERSION_STRING "0.11.0"
+
+/* Sizes in bytes, and clocks of 13.56 MHz. */
+#define MFRC531_FIFO_SIZE 64
+#define MFRC531_EEPROM_SIZE 512
+#define MFRC531_PROFILE_ADDRESS 0x10 /* of the start-up profile in EEPROM, 010h-02Fh */
+#define MFRC531_PROFILE_SIZE 32
+#define MFRC531_TAKE_BUFFER_SIZE 66 /* the FIFO and a checksum of two bytes */
+#define MFRC531_CLOCKS_PER_SECOND 13560000
+#define MFRC531_MOST_CLOCKS 65535        /* of one advance */
+#define MFRC531_PROGRAMMING_CLOCKS 78648 /* from the latching of bytes by WriteE2 until they are in EEPROM, 5.8 ms */
 
 #ifdef __cplusplus
 extern "C" {
@@ -25,6 +68,8 @@ extern "C" {
  * Bits 31-24 are 0. A refused call answers its refusal alone, and leaves chip and buffers as they were. */
 typedef uint32_t mfrc531_answer;
 
+/* Each number goes by one name; mfrc531_refusal_text has it in words. Which call gives which, and in which order they are judged, stands with
+ * the call below. 7 goes before all others. */
 enum mfrc531_refusal {
     MFRC531_NOT_REFUSED = 0,
     MFRC531_ADDRESS_ABOVE_63 = 1,
@@ -43,9 +88,228 @@ enum mfrc531_refusal {
 };
 
 /* The refusal of an answer; the byte or count; the last bits. */
-static inline uint8_t mfrc531_refusal_of(mfrc531_answer answer) { return (uint8_t)(answer & 0xFF); }
-static inline uint8_t mfrc531_value_of(mfrc531_answer answer) { return (uint8_t)(answer >> 8 & 0xFF); }
-static inline uint8_t mfrc531_last_bits_of(mfrc531_answer answer) { return (uint8_t)(answer >> 16 & 0xFF); }
+static inline uint8_t mfrc531_refusal_of(mfrc531_answer answer) { return answer & 0xFFu; }
+static inline uint8_t mfrc531_value_of(mfrc531_answer answer) { return answer >> 8 & 0xFFu; }
+static inline uint8_t mfrc531_last_bits_of(mfrc531_answer answer) { return answer >> 16 & 0xFFu; }
+
+/* One line of text for a refusal's number, without a full stop and a line's end; any number has one, 0 and numbers that are no refusal too. */
+static inline const char *mfrc531_refusal_text(unsigned number)
+{
+    switch (number) {
+    case MFRC531_NOT_REFUSED: return "not refused";
+    case MFRC531_ADDRESS_ABOVE_63: return "the host address is above 63";
+    case MFRC531_IMAGE_NOT_512_BYTES: return "the image is not 512 bytes";
+    case MFRC531_OVER_65535_CLOCKS: return "more than 65,535 clocks were asked";
+    case MFRC531_NOT_SENDING_OR_RECEIVING: return "the chip does not send, holds no byte, or does not receive";
+    case MFRC531_FRAME_MALFORMED: return "the received frame is malformed";
+    case MFRC531_BUFFER_UNDER_66_BYTES: return "the buffer is under 66 bytes";
+    case MFRC531_CHIP_MALFORMED: return "the memory is no chip's state";
+    case MFRC531_BOTH_PROFILES_FAIL: return "neither profile passes";
+    case MFRC531_PROFILE_NOT_32_BYTES: return "the profile is not 32 bytes";
+    case MFRC531_FIXED_BIT_DIFFERS: return "a bit that the data sheet fixes differs";
+    case MFRC531_PRESCALER_ABOVE_21: return "TPreScaler is above 21";
+    case MFRC531_RELOAD_0_WITH_START: return "TStartTxBegin or TStartTxEnd is set, but TimerReload is 0";
+    case MFRC531_WATER_LEVEL_ABOVE_31: return "WaterLevel is above 31";
+    default: return "unknown: the library has no refusal of this number";
+    }
+}
+
+/* ---- Registers and commands by name -------------------------------------------------------------------------------------------------- */
+
+/* Registers by their address, with the data sheet's names. Addresses that it only calls reserved have none. Page is one register, seen at every
+ * address that is a multiple of 8.
+ *
+ * While UsePageSelect is set, as after a start, the register is 8 * PageSelect + address % 8; else it is the address itself. */
+enum mfrc531_register {
+    MFRC531_REG_PAGE = 0x00,
+    MFRC531_REG_COMMAND = 0x01,
+    MFRC531_REG_FIFO_DATA = 0x02,
+    MFRC531_REG_PRIMARY_STATUS = 0x03,
+    MFRC531_REG_FIFO_LENGTH = 0x04,
+    MFRC531_REG_SECONDARY_STATUS = 0x05,
+    MFRC531_REG_INTERRUPT_EN = 0x06,
+    MFRC531_REG_INTERRUPT_RQ = 0x07,
+    MFRC531_REG_CONTROL = 0x09,
+    MFRC531_REG_ERROR_FLAG = 0x0A,
+    MFRC531_REG_COLL_POS = 0x0B, /* reads 0 */
+    MFRC531_REG_TIMER_VALUE = 0x0C,
+    MFRC531_REG_CRC_RESULT_LSB = 0x0D,
+    MFRC531_REG_CRC_RESULT_MSB = 0x0E,
+    MFRC531_REG_BIT_FRAMING = 0x0F,
+    /* From here to 2Fh all eight bits are stored. 22h-24h and 29h-2Ch have an effect, the others none. */
+    MFRC531_REG_TX_CONTROL = 0x11,
+    MFRC531_REG_CW_CONDUCTANCE = 0x12,
+    MFRC531_REG_MOD_CONDUCTANCE = 0x13,
+    MFRC531_REG_CODER_CONTROL = 0x14,
+    MFRC531_REG_MOD_WIDTH = 0x15,
+    MFRC531_REG_MOD_WIDTH_SOF = 0x16,
+    MFRC531_REG_TYPE_B_FRAMING = 0x17,
+    MFRC531_REG_RX_CONTROL1 = 0x19,
+    MFRC531_REG_DECODER_CONTROL = 0x1A,
+    MFRC531_REG_BIT_PHASE = 0x1B,
+    MFRC531_REG_RX_THRESHOLD = 0x1C,
+    MFRC531_REG_BPSK_DEM_CONTROL = 0x1D,
+    MFRC531_REG_RX_CONTROL2 = 0x1E,
+    MFRC531_REG_CLOCK_Q_CONTROL = 0x1F,
+    MFRC531_REG_RX_WAIT = 0x21,
+    MFRC531_REG_CHANNEL_REDUNDANCY = 0x22,
+    MFRC531_REG_CRC_PRESET_LSB = 0x23,
+    MFRC531_REG_CRC_PRESET_MSB = 0x24,
+    MFRC531_REG_PRESET25 = 0x25,
+    MFRC531_REG_MFOUT_SELECT = 0x26,
+    MFRC531_REG_PRESET27 = 0x27,
+    MFRC531_REG_FIFO_LEVEL = 0x29,
+    MFRC531_REG_TIMER_CLOCK = 0x2A,
+    MFRC531_REG_TIMER_CONTROL = 0x2B,
+    MFRC531_REG_TIMER_RELOAD = 0x2C,
+    MFRC531_REG_IRQ_PIN_CONFIG = 0x2D,
+    MFRC531_REG_PRESET2E = 0x2E,
+    MFRC531_REG_PRESET2F = 0x2F,
+    /* The test registers read 0, and a write to them does nothing. */
+    MFRC531_REG_TEST_ANA_SELECT = 0x3A,
+    MFRC531_REG_TEST_DIGI_SELECT = 0x3D
+};
+
+/* Codes for the register Command. Any code but the first ten is unknown to the bench: the chip goes to Idle and sets IdleIRq. */
+enum mfrc531_command {
+    MFRC531_CMD_IDLE = 0x00,
+    MFRC531_CMD_WRITE_E2 = 0x01,
+    MFRC531_CMD_READ_E2 = 0x03,
+    MFRC531_CMD_LOAD_CONFIG = 0x07,
+    MFRC531_CMD_LOAD_KEY_E2 = 0x0B,
+    MFRC531_CMD_CALC_CRC = 0x12,
+    MFRC531_CMD_RECEIVE = 0x16,
+    MFRC531_CMD_LOAD_KEY = 0x19,
+    MFRC531_CMD_TRANSMIT = 0x1A,
+    MFRC531_CMD_TRANSCEIVE = 0x1E,
+    /* Commands of the chip that the bench leaves out. */
+    MFRC531_CMD_AUTHENT1 = 0x0C,
+    MFRC531_CMD_AUTHENT2 = 0x14,
+    MFRC531_CMD_START_UP = 0x3F
+};
+
+/* ---- Bits and fields of registers ---------------------------------------------------------------------------------------------------- */
+
+/* By the data sheet's symbols. A field of several bits has its mask, and a shift where it does not begin at bit 0. */
+
+enum mfrc531_page_bits {
+    MFRC531_USE_PAGE_SELECT = 0x80,
+    MFRC531_PAGE_SELECT_MASK = 0x07
+};
+
+enum mfrc531_command_bits {
+    MFRC531_IF_DETECT_BUSY = 0x80, /* reads 0 */
+    MFRC531_COMMAND_MASK = 0x3F
+};
+
+enum mfrc531_primary_status_bits {
+    MFRC531_MODEM_STATE_MASK = 0x70, /* reads 0 */
+    MFRC531_MODEM_STATE_SHIFT = 4,
+    MFRC531_IRQ = 0x08,      /* a request of InterruptRq is set that InterruptEn enables */
+    MFRC531_ERR = 0x04,      /* a bit of ErrorFlag is set */
+    MFRC531_HI_ALERT = 0x02, /* the FIFO has room for at most WaterLevel bytes */
+    MFRC531_LO_ALERT = 0x01  /* the FIFO holds at most WaterLevel bytes */
+};
+
+enum mfrc531_fifo_length_bits {
+    MFRC531_FIFO_LENGTH_MASK = 0x7F
+};
+
+enum mfrc531_secondary_status_bits {
+    MFRC531_T_RUNNING = 0x80,
+    MFRC531_E2_READY = 0x40,  /* no programming runs */
+    MFRC531_CRC_READY = 0x20, /* reads 1 */
+    MFRC531_RX_LAST_BITS_MASK = 0x07
+};
+
+/* InterruptEn. A write changes the sources whose bits are 1: it enables them with SetIEn, and disables them without. SetIEn reads 0. */
+enum mfrc531_interrupt_en_bits {
+    MFRC531_SET_IEN = 0x80,
+    MFRC531_TIMER_IEN = 0x20,
+    MFRC531_TX_IEN = 0x10,
+    MFRC531_RX_IEN = 0x08,
+    MFRC531_IDLE_IEN = 0x04,
+    MFRC531_HI_ALERT_IEN = 0x02,
+    MFRC531_LO_ALERT_IEN = 0x01
+};
+
+/* InterruptRq. A write changes the requests whose bits are 1: it sets them with SetIRq, and clears them without. SetIRq reads 0. */
+enum mfrc531_interrupt_rq_bits {
+    MFRC531_SET_IRQ = 0x80,
+    MFRC531_TIMER_IRQ = 0x20,
+    MFRC531_TX_IRQ = 0x10,
+    MFRC531_RX_IRQ = 0x08,
+    MFRC531_IDLE_IRQ = 0x04,
+    MFRC531_HI_ALERT_IRQ = 0x02,
+    MFRC531_LO_ALERT_IRQ = 0x01
+};
+
+/* Control. Only StandBy and PowerDown read back, and they have no effect here. A write with several of the others flushes the FIFO, then stops
+ * the timer, then starts it. */
+enum mfrc531_control_bits {
+    MFRC531_STAND_BY = 0x20,
+    MFRC531_POWER_DOWN = 0x10,
+    MFRC531_CRYPTO1_ON = 0x08, /* reads 0 */
+    MFRC531_T_STOP_NOW = 0x04,
+    MFRC531_T_START_NOW = 0x02,
+    MFRC531_FLUSH_FIFO = 0x01
+};
+
+enum mfrc531_error_flag_bits {
+    MFRC531_KEY_ERR = 0x40, /* set after a start */
+    MFRC531_ACCESS_ERR = 0x20,
+    MFRC531_FIFO_OVFL = 0x10,
+    MFRC531_CRC_ERR = 0x08,
+    MFRC531_FRAMING_ERR = 0x04, /* reads 0 */
+    MFRC531_PARITY_ERR = 0x02,
+    MFRC531_COLL_ERR = 0x01 /* reads 0 */
+};
+
+enum mfrc531_bit_framing_bits {
+    MFRC531_RX_ALIGN_MASK = 0x70, /* stored, without effect */
+    MFRC531_RX_ALIGN_SHIFT = 4,
+    MFRC531_TX_LAST_BITS_MASK = 0x07 /* stays as it is after a take */
+};
+
+enum mfrc531_channel_redundancy_bits {
+    MFRC531_CRC3309 = 0x20, /* complements a checksum of 16 bits */
+    MFRC531_CRC8 = 0x10,
+    MFRC531_RX_CRC_EN = 0x08,
+    MFRC531_TX_CRC_EN = 0x04,
+    MFRC531_PARITY_ODD = 0x02,
+    MFRC531_PARITY_EN = 0x01
+};
+
+enum mfrc531_fifo_level_bits {
+    MFRC531_WATER_LEVEL_MASK = 0x3F
+};
+
+/* TimerClock. A timer step takes 2 to the power of TPreScaler clocks; above 21 the timer does not start. */
+enum mfrc531_timer_clock_bits {
+    MFRC531_T_AUTO_RESTART = 0x20,
+    MFRC531_T_PRESCALER_MASK = 0x1F
+};
+
+enum mfrc531_timer_control_bits {
+    MFRC531_T_STOP_RX_END = 0x08,   /* either stop bit stops the timer at a delivery */
+    MFRC531_T_STOP_RX_BEGIN = 0x04,
+    MFRC531_T_START_TX_END = 0x02,  /* either start bit starts it at a take */
+    MFRC531_T_START_TX_BEGIN = 0x01
+};
+
+/* ---- The shipped EEPROM -------------------------------------------------------------------------------------------------------------- */
+
+/* MFRC531_EEPROM_SIZE bytes for mfrc531_start: the start-up profile that the chip is shipped with at 010h-02Fh, and zeros elsewhere. The profile
+ * alone begins at MFRC531_PROFILE_ADDRESS. */
+static inline const uint8_t *mfrc531_shipped_image(void)
+{
+    static const uint8_t image[MFRC531_EEPROM_SIZE] = {
+        0x00, 0x00, 0x00, 0x00, 0x00, 0x00, 0x00, 0x00, 0x00, 0x00, 0x00, 0x00, 0x00, 0x00, 0x00, 0x00, /* 000h */
+        0x00, 0x58, 0x3F, 0x3F, 0x19, 0x13, 0x3F, 0x3B, 0x00, 0x73, 0x08, 0xAD, 0xFF, 0x1E, 0x41, 0x00, /* 010h */
+        0x00, 0x06, 0x03, 0x63, 0x63, 0x00, 0x00, 0x00, 0x00, 0x08, 0x07, 0x06, 0x0A, 0x02, 0x00, 0x00, /* 020h */
+    };
+    return image;
+}
 
 /* ---- The chip ------------------------------------------------------------------------------------------------------------------------ */
 
@@ -92,7 +356,7 @@ typedef struct {
     uint8_t timer_value;           /* TimerValue */
     uint8_t bit_framing;           /* BitFraming */
     uint8_t reserved_17[7];
-    uint8_t registers[32];         /* 10h-2Fh */
+    uint8_t registers[32];         /* 10h-2Fh: register r is element r - 10h; those of the Page addresses are not used */
     uint8_t slots[64];             /* of the FIFO */
     uint8_t latch[16];             /* the bytes that WriteE2 programs */
     uint8_t key[6];                /* the key buffer, or zeros */
@@ -138,7 +402,7 @@ MFRC531_AT(eeprom, 162);
 
 /* ---- The six events ------------------------------------------------------------------------------------------------------------------ */
 
-/* A start from an EEPROM image. Judges no old chip: any memory becomes a chip.
+/* A start from an EEPROM image. Judges no old chip: any memory becomes a chip, Idle, with Page 80h and ErrorFlag 40h.
  * Refuses: 2 the image is not 512 bytes. */
 mfrc531_answer mfrc531_start(mfrc531_chip *chip, const uint8_t *image, size_t length);
 
@@ -150,7 +414,7 @@ mfrc531_answer mfrc531_read(mfrc531_chip *chip, uint8_t address);
  * Refuses: 7 the chip is malformed; 1 the address is above 63. */
 mfrc531_answer mfrc531_write(mfrc531_chip *chip, uint8_t address, uint8_t byte);
 
-/* An advance by clocks of 13.56 MHz, for the timer and the EEPROM programming. n clocks are n times one clock.
+/* An advance by clocks of 13.56 MHz, for the timer and the EEPROM programming: the only call in which time passes. n clocks are n times one clock.
  * Refuses: 7 the chip is malformed; 3 more than 65,535 clocks. */
 mfrc531_answer mfrc531_advance(mfrc531_chip *chip, uint32_t clocks);
 
@@ -168,9 +432,10 @@ mfrc531_answer mfrc531_deliver(mfrc531_chip *chip, const uint8_t *bytes, size_t 
 /* ---- Profiles ------------------------------------------------------------------------------------------------------------------------ */
 
 /* The check of a start-up profile, 32 bytes for 10h-2Fh. Refusals 10 to 13 name the register in bits 15-8, and 10 the bit in bits 23-16.
- * Refuses: 9 the profile is not 32 bytes; then, at the lowest register: 10 a fixed bit differs, 11 TPreScaler (2Ah) is above 21, 12 TimerReload
- * (2Ch) is 0 while a TStartTx bit is set, 13 WaterLevel (29h) is above 31, so that LoAlert or HiAlert is on at every fill of the FIFO. Only the
- * check judges these values: a start, a host write and LoadConfig take them all. */
+ * Refuses: 9 the profile is not 32 bytes. Else it names the lowest register that has a fault: 10 the data sheet fixes one of its bits at another
+ * value; 11 TPreScaler (2Ah) is above 21; 12 TStartTxBegin or TStartTxEnd is set, but TimerReload (2Ch) is 0; 13 WaterLevel (29h) is above 31, so
+ * that LoAlert or HiAlert is on at every fill of the FIFO. Only the check judges these values: a start, a host write and LoadConfig take them
+ * all. */
 mfrc531_answer mfrc531_check_profile(const uint8_t *profile, size_t length);
 
 /* The choice for a safe start, from two images of 512 bytes. Value: 1 the user's profile (bytes 010h-02Fh) passes, 2 only the rescue's does.

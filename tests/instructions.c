@@ -8,10 +8,6 @@
 #include <stdlib.h>
 #include <string.h>
 
-enum { PAGE = 0x00, COMMAND = 0x01, FIFO_DATA = 0x02, PRIMARY_STATUS = 0x03, FIFO_LENGTH = 0x04, INTERRUPT_RQ = 0x07, CONTROL = 0x09,
-       CRC_RESULT_LSB = 0x0D, CRC_RESULT_MSB = 0x0E, TX_CONTROL = 0x11, TIMER_CLOCK = 0x2A, TIMER_RELOAD = 0x2C };
-enum { IDLE = 0x00, CALC_CRC = 0x12 };
-
 static mfrc531_chip chip;
 static unsigned long calls;
 
@@ -33,7 +29,7 @@ static void put(uint8_t address, uint8_t byte) { done(mfrc531_write(&chip, addre
 static void poll_status(void)
 {
     for (int i = 0; i < 1000; i++)
-        get(PRIMARY_STATUS);
+        get(MFRC531_REG_PRIMARY_STATUS);
 }
 
 /* As many bytes as an Idle chip's FIFO holds, again and again. It is emptied by its positions, so that no other call is counted. */
@@ -42,32 +38,32 @@ static void fill_fifo(void)
     for (int i = 0; i < 16 * 64; i++) {
         if (i % 64 == 0)
             chip.fifo_read = chip.fifo_write;
-        put(FIFO_DATA, (uint8_t)i);
+        put(MFRC531_REG_FIFO_DATA, (uint8_t)i);
     }
 }
 
 static void start_crc(void)
 {
     for (int i = 0; i < 1000; i++)
-        put(COMMAND, CALC_CRC);
+        put(MFRC531_REG_COMMAND, MFRC531_CMD_CALC_CRC);
 }
 
 static void feed_crc(void)
 {
     for (int i = 0; i < 1000; i++)
-        put(FIFO_DATA, (uint8_t)i);
+        put(MFRC531_REG_FIFO_DATA, (uint8_t)i);
 }
 
 static void read_registers(void)
 {
     for (int i = 0; i < 1000; i++)
-        get((uint8_t)(TX_CONTROL + i % 7));
+        get((uint8_t)(MFRC531_REG_TX_CONTROL + i % 7));
 }
 
 static void write_registers(void)
 {
     for (int i = 0; i < 1000; i++)
-        put((uint8_t)(TX_CONTROL + i % 7), (uint8_t)i);
+        put((uint8_t)(MFRC531_REG_TX_CONTROL + i % 7), (uint8_t)i);
 }
 
 /* From one end of the timer to the next. */
@@ -81,16 +77,16 @@ static void pass_clocks(void)
 static void drive(void)
 {
     for (int i = 0; i < 50; i++) {
-        put(INTERRUPT_RQ, 0x7F);
-        put(COMMAND, CALC_CRC);
+        put(MFRC531_REG_INTERRUPT_RQ, 0x7F);
+        put(MFRC531_REG_COMMAND, MFRC531_CMD_CALC_CRC);
         for (int k = 0; k < 4; k++)
-            put(FIFO_DATA, (uint8_t)(i + k));
+            put(MFRC531_REG_FIFO_DATA, (uint8_t)(i + k));
         for (int k = 0; k < 6; k++) {
-            get(PRIMARY_STATUS);
-            get(FIFO_LENGTH);
+            get(MFRC531_REG_PRIMARY_STATUS);
+            get(MFRC531_REG_FIFO_LENGTH);
         }
-        get(CRC_RESULT_LSB);
-        get(CRC_RESULT_MSB);
+        get(MFRC531_REG_CRC_RESULT_LSB);
+        get(MFRC531_REG_CRC_RESULT_MSB);
     }
 }
 
@@ -105,7 +101,7 @@ static void record(void)
     struct access *next = list;
     for (int drawn = 0; drawn < DRAWN; drawn++) {
         if (drawn % STRETCH == 0)
-            *next++ = (struct access){0, COMMAND, IDLE};
+            *next++ = (struct access){0, MFRC531_REG_COMMAND, MFRC531_CMD_IDLE};
         state += 0x9E3779B97F4A7C15;
         uint64_t number = state;
         number = (number ^ number >> 30) * 0xBF58476D1CE4E5B9;
@@ -113,11 +109,11 @@ static void record(void)
         number ^= number >> 31;
         unsigned what = (unsigned)(number % 100);
         if (what < 50)
-            *next++ = (struct access){0, FIFO_DATA, (uint8_t)(number >> 32)};
+            *next++ = (struct access){0, MFRC531_REG_FIFO_DATA, (uint8_t)(number >> 32)};
         else if (what < 90)
-            *next++ = (struct access){1, PRIMARY_STATUS, 0};
+            *next++ = (struct access){1, MFRC531_REG_PRIMARY_STATUS, 0};
         else
-            *next++ = (struct access){0, COMMAND, CALC_CRC};
+            *next++ = (struct access){0, MFRC531_REG_COMMAND, MFRC531_CMD_CALC_CRC};
     }
     uint64_t sum = 0;
     for (int i = 0; i < ACCESSES; i++)
@@ -141,13 +137,13 @@ static void play(void)
 /* ---- The kinds ----------------------------------------------------------------------------------------------------------------------- */
 
 static void nothing(void) {}
-static void begin_crc(void) { put(COMMAND, CALC_CRC); }
+static void begin_crc(void) { put(MFRC531_REG_COMMAND, MFRC531_CMD_CALC_CRC); }
 
 static void run_timer(void)
 {
-    put(TIMER_RELOAD, 255);
-    put(TIMER_CLOCK, 0x26); /* TAutoRestart, prescaler 6 */
-    put(CONTROL, 0x02);
+    put(MFRC531_REG_TIMER_RELOAD, 255);
+    put(MFRC531_REG_TIMER_CLOCK, MFRC531_T_AUTO_RESTART | 6); /* a step each 64 clocks */
+    put(MFRC531_REG_CONTROL, MFRC531_T_START_NOW);
 }
 
 static const struct { const char *kind; void (*prepare)(void), (*round)(void); } kinds[] = {
@@ -168,7 +164,7 @@ int main(int count, char **words)
     image[0x23] = image[0x24] = 0x63; /* the preset of ISO/IEC 14443-3, and a WaterLevel of 8 */
     image[0x29] = 0x08;
     done(mfrc531_start(&chip, image, sizeof image));
-    put(PAGE, 0x00);
+    put(MFRC531_REG_PAGE, 0x00);
     for (size_t i = 0; count == 3 && i < sizeof kinds / sizeof *kinds; i++) {
         if (strcmp(words[1], kinds[i].kind) == 0) {
             kinds[i].prepare();

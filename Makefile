@@ -7,6 +7,9 @@ CFLAGS ?= -O2 -Wall -Wextra -pedantic -std=c11
 CALLS ?= 1000000
 SOAK_CALLS ?= 50000000
 BUILD := $(abspath build)
+# The library, and the crate of the C interface, by whose name rt calls it.
+LIBRARY := $(BUILD)/libmfrc531.a
+INTERFACE := entry_in_place
 export MFRC531_LIB_DIR := $(BUILD)
 # Crates that rt proves, or edits that it tries, at a time. Four on two processors: all crates from nothing took 223 s, and 238 s with two.
 export RT_JOBS ?= 4
@@ -16,8 +19,8 @@ export RT_JOBS ?= 4
 help:
 	@echo 'make run      build the library, proved, and a first firmware on it; show both at work, and the profile check'
 	@echo 'make test     every test; its last line is the verdict of rt ci'
-	@echo 'make library  build/libbench.a, for include/mfrc531.h'
-	@echo 'make install  library, header and pkg-config file under PREFIX (default /usr/local)'
+	@echo 'make library  build/libmfrc531.a, for include/mfrc531.h'
+	@echo 'make install  library, header, pkg-config file and CMake package under PREFIX (default /usr/local); proves only what is new'
 	@echo 'make bench    the library beside a plain Rust chip, times and instructions, into docs/PERFORMANCE.md'
 	@echo 'make soak     the differential test for SOAK_CALLS calls (default 50,000,000)'
 	@echo 'make check    prove what has changed'
@@ -29,17 +32,25 @@ $(BUILD)/profile_check: FORCE
 	@rt check profile_check > $(BUILD)/profile_check.log 2>&1 || { cat $(BUILD)/profile_check.log; exit 1; }
 	@cmp -s target/bin/profile_check $@ || cp target/bin/profile_check $@
 
-# libbench.a is the library; libcrc_exports.a has the checksum over slices, for the differential test alone.
-# rt check proves crates side by side, rt staticlib one after the other: so the first goes before.
+# rt check proves crates side by side, rt staticlib one after the other: so the first goes before. Both do nothing where all is up to date.
+# up_to_date has the time at which rt was last asked about the library and agreed.
+$(LIBRARY): FORCE
+	@mkdir -p $(BUILD)
+	@touch $(BUILD)/asked
+	@{ rt check $(INTERFACE) && rt staticlib $(INTERFACE); } > $(BUILD)/library.log 2>&1 || { cat $(BUILD)/library.log; exit 1; }
+	@cmp -s target/staticlib/lib$(INTERFACE).a $@ || cp target/staticlib/lib$(INTERFACE).a $@
+	@mv $(BUILD)/asked $(BUILD)/up_to_date
+
+# Archives for tests alone: libcrc_exports.a has the checksum over slices.
 $(BUILD)/lib%.a: FORCE
 	@mkdir -p $(BUILD)
 	@{ rt check $* && rt staticlib $*; } > $(BUILD)/$*.log 2>&1 || { cat $(BUILD)/$*.log; exit 1; }
 	@cmp -s target/staticlib/lib$*.a $@ || cp target/staticlib/lib$*.a $@
 
-library: $(BUILD)/libbench.a
+library: $(LIBRARY)
 
-$(BUILD)/lock: examples/lock.c include/mfrc531.h $(BUILD)/libbench.a
-	@$(CC) $(CFLAGS) -Iinclude examples/lock.c $(BUILD)/libbench.a -o $@
+$(BUILD)/lock: examples/lock.c include/mfrc531.h $(LIBRARY)
+	@$(CC) $(CFLAGS) -Iinclude examples/lock.c $(LIBRARY) -o $@
 
 run: $(BUILD)/lock $(BUILD)/profile_check
 	@echo 'A first firmware, examples/lock.c, on the proved chip:'
@@ -51,7 +62,7 @@ run: $(BUILD)/lock $(BUILD)/profile_check
 # All that the tests link, proved side by side before any of it is built.
 proved:
 	@mkdir -p $(BUILD)
-	@rt check entry_in_place profile_check crc_exports journal_runs > $(BUILD)/proved.log 2>&1 || { cat $(BUILD)/proved.log; exit 1; }
+	@rt check $(INTERFACE) profile_check crc_exports journal_runs > $(BUILD)/proved.log 2>&1 || { cat $(BUILD)/proved.log; exit 1; }
 
 test: proved $(BUILD)/lock $(BUILD)/profile_check $(BUILD)/libcrc_exports.a
 	tests/profile_check $(BUILD)/profile_check
@@ -64,19 +75,28 @@ test: proved $(BUILD)/lock $(BUILD)/profile_check $(BUILD)/libcrc_exports.a
 
 # The same library with a second exported caller of the events, for a look at what that costs.
 $(BUILD)/libsecond_caller.a: FORCE
-	@tests/second_caller $@
+	@tests/second_caller $@ $(INTERFACE)
 
-bench: $(BUILD)/libbench.a $(BUILD)/libcrc_exports.a $(BUILD)/libsecond_caller.a
+bench: $(LIBRARY) $(BUILD)/libcrc_exports.a $(BUILD)/libsecond_caller.a
 	tests/differential/bench docs/PERFORMANCE.md second_caller
 
-soak: $(BUILD)/libbench.a $(BUILD)/libcrc_exports.a
+soak: $(LIBRARY) $(BUILD)/libcrc_exports.a
 	tests/differential/run $(SOAK_CALLS)
 
-install: $(BUILD)/libbench.a
-	install -d $(DESTDIR)$(PREFIX)/lib/pkgconfig $(DESTDIR)$(PREFIX)/include
-	install -m 644 $(BUILD)/libbench.a $(DESTDIR)$(PREFIX)/lib/libmfrc531.a
-	install -m 644 include/mfrc531.h $(DESTDIR)$(PREFIX)/include/mfrc531.h
-	sed 's|@PREFIX@|$(PREFIX)|' mfrc531.pc.in > $(DESTDIR)$(PREFIX)/lib/pkgconfig/mfrc531.pc
+# Takes the library as it is, and needs no rt, where it is there and nothing under crates/ is newer than it; else `make library` goes before.
+# The version stands in the header alone.
+VERSION = $(shell sed -n 's/^.define MFRC531_VERSION_STRING "\(.*\)"/\1/p' include/mfrc531.h)
+INSTALLED = $(DESTDIR)$(abspath $(PREFIX))
+install:
+	@if [ ! -f $(LIBRARY) ] || [ ! -f $(BUILD)/up_to_date ] || [ -n "$$(find crates.txt crates -newer $(BUILD)/up_to_date -print -quit)" ]; then \
+	    $(MAKE) --no-print-directory library; fi
+	install -d $(INSTALLED)/lib/pkgconfig $(INSTALLED)/lib/cmake/mfrc531 $(INSTALLED)/include
+	install -m 644 $(LIBRARY) $(INSTALLED)/lib/libmfrc531.a
+	install -m 644 include/mfrc531.h $(INSTALLED)/include/mfrc531.h
+	sed 's|@PREFIX@|$(abspath $(PREFIX))|;s|@VERSION@|$(VERSION)|' mfrc531.pc.in | install -m 644 /dev/stdin $(INSTALLED)/lib/pkgconfig/mfrc531.pc
+	install -m 644 cmake/mfrc531-config.cmake $(INSTALLED)/lib/cmake/mfrc531/mfrc531-config.cmake
+	sed 's|@VERSION@|$(VERSION)|' cmake/mfrc531-config-version.cmake.in | \
+	    install -m 644 /dev/stdin $(INSTALLED)/lib/cmake/mfrc531/mfrc531-config-version.cmake
 
 check:
 	rt check

@@ -20,7 +20,7 @@ help:
 	@echo 'make run      build the library, proved, and a first firmware on it; show both at work, and the profile check'
 	@echo 'make test     every test; its last line is the verdict of rt ci'
 	@echo 'make library  build/libmfrc531.a, for include/mfrc531.h'
-	@echo 'make install  library, header, pkg-config file and CMake package under PREFIX (default /usr/local); proves only what is new'
+	@echo 'make install  library, header, pkg-config file and CMake package under PREFIX (default /usr/local), as they are built'
 	@echo 'make bench    the library beside a plain Rust chip, times and instructions, into docs/PERFORMANCE.md'
 	@echo 'make soak     the differential test for SOAK_CALLS calls (default 50,000,000)'
 	@echo 'make check    prove what has changed'

@@ -31,8 +31,8 @@
  *
  * Where the bench and the chip differ, and why, is docs/MANUAL.md, section 14 "Differences from the chip"; calls and time are its section 9.
  *
- * x86-64, System V calling convention. Nothing here allocates, blocks, prints or keeps state outside the chip. Two threads may call at the
- * same time on two chips.
+ * C11 or C++11, or later; x86-64, System V calling convention. Nothing here allocates, blocks, prints or keeps state outside the chip. Two threads
+ * may call at the same time on two chips.
  */
 #ifndef MFRC531_H
 #define MFRC531_H
@@ -142,7 +142,7 @@ enum mfrc531_register {
     MFRC531_REG_MOD_CONDUCTANCE = 0x13,
     MFRC531_REG_CODER_CONTROL = 0x14,
     MFRC531_REG_MOD_WIDTH = 0x15,
-    MFRC531_REG_MOD_WIDTH_SOF = 0x16,
+    MFRC531_REG_MOD_WIDTH_SOF = 0x16, /* in another table PreSet16 */
     MFRC531_REG_TYPE_B_FRAMING = 0x17,
     MFRC531_REG_RX_CONTROL1 = 0x19,
     MFRC531_REG_DECODER_CONTROL = 0x1A,
@@ -284,7 +284,7 @@ enum mfrc531_fifo_level_bits {
     MFRC531_WATER_LEVEL_MASK = 0x3F
 };
 
-/* TimerClock. A timer step takes 2 to the power of TPreScaler clocks; above 21 the timer does not start. */
+/* TimerClock. A timer step takes 2 to the power of TPreScaler clocks. If it is above 21, a start of the timer leaves it stopped at 0. */
 enum mfrc531_timer_clock_bits {
     MFRC531_T_AUTO_RESTART = 0x20,
     MFRC531_T_PRESCALER_MASK = 0x1F
@@ -295,6 +295,11 @@ enum mfrc531_timer_control_bits {
     MFRC531_T_STOP_RX_BEGIN = 0x04,
     MFRC531_T_START_TX_END = 0x02,  /* either start bit starts it at a take */
     MFRC531_T_START_TX_BEGIN = 0x01
+};
+
+enum mfrc531_irq_pin_config_bits { /* stored, without effect: the bench has no pins */
+    MFRC531_IRQ_INV = 0x02,
+    MFRC531_IRQ_PUSH_PULL = 0x01
 };
 
 /* ---- The shipped EEPROM -------------------------------------------------------------------------------------------------------------- */

@@ -32,7 +32,7 @@ $(BUILD)/profile_check: FORCE
 	@rt check profile_check > $(BUILD)/profile_check.log 2>&1 || { cat $(BUILD)/profile_check.log; exit 1; }
 	@cmp -s target/bin/profile_check $@ || cp target/bin/profile_check $@
 
-# rt check proves crates side by side, rt staticlib one after the other: so the first goes before. Both do nothing where all is up to date.
+# rt check proves crates side by side, rt staticlib one after the other: so the first goes before. Neither proves again what is up to date.
 # up_to_date has the time at which rt was last asked about the library and agreed.
 $(LIBRARY): FORCE
 	@mkdir -p $(BUILD)

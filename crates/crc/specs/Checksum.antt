@@ -1,4 +1,4 @@
--- The checksum of document 01, "Commands", CalcCRC: bytes into the register, and the mode bits of ChannelRedundancy (22h).
+-- The checksum (manual 8.3, and 7.6 for CalcCRC): bytes into the register, and the mode bits of ChannelRedundancy (22h).
 -- The CRC register holds what has been absorbed; what is shown or sent of it goes by the mode. The polynomials and what a bit makes of the register
 -- are `ShiftRegister` of `crc_table`.
 -- Assumes nothing.
@@ -29,7 +29,7 @@ CRC3309 redundancy = bitSet redundancy 5
 abbrev pub tapsOf : ℕ → ℕ
 tapsOf redundancy = cond (CRC8 redundancy) taps8 taps16
 
--- The register at the start: CRCPresetLSB (23h) and CRCPresetMSB (24h); CRC8 starts "from 23h" alone.
+-- The register at the start: CRCPresetLSB (23h) and CRCPresetMSB (24h); CRC8 starts from the first of them alone.
 abbrev pub presetOf : ℕ → ℕ → ℕ → ℕ
 presetOf redundancy lsb msb = cond (CRC8 redundancy) lsb (lsb + 256 * msb)
 
@@ -40,7 +40,7 @@ absorbed redundancy c b = afterByte (tapsOf redundancy) c b
 abbrev pub absorbedAll : ℕ → ℕ → List ℕ → ℕ
 absorbedAll redundancy c bs = afterBytes (tapsOf redundancy) c bs
 
--- The result that the register stands for: "CRC3309 complements the result"; CRC8 is "never complemented".
+-- The result that the register stands for: by CRC3309 every bit of it flipped, but not with CRC8.
 abbrev pub resultOf : ℕ → ℕ → ℕ
 resultOf redundancy c = cond (CRC8 redundancy) c (cond (CRC3309 redundancy) (0xFFFF - c) c)
 

@@ -1,4 +1,4 @@
-// The checksum unit: both polynomials of document 01, over one byte and over a slice. A byte of a 16-bit checksum is one lookup in a table of 256
+// The checksum unit: both polynomials of manual 8.3, over one byte and over a slice. A byte of a 16-bit checksum is one lookup in a table of 256
 // entries; a byte of CRC8 goes bit by bit.
 //
 // `redundancy` is the byte of ChannelRedundancy (22h): bit 4 chooses CRC8, bit 5 complements a 16-bit result.

@@ -1,4 +1,4 @@
--- The register of document 01's checksum, "Commands", CalcCRC: a polynomial's taps, and what one bit and several bits make of it, least bit first.
+-- The checksum's register (manual 8.3): a polynomial's taps, and what one bit and several bits make of it, least bit first.
 -- Assumes nothing.
 use Prim.Native.Nat.{ℕ, zero, suc, _+_, _-_, _/_, _%_, _^_}
 use mathlib.Core.Bool.{cond}
@@ -7,16 +7,16 @@ use lib.Bits.{bitXor}
 use lib.Dec.{eqb}
 
 -- The taps of a polynomial of the given width, from the exponents of its terms below x^width. The register shifts towards its
--- least bit ("least bit first"), so the term x^e stands at bit width - 1 - e.
+-- least bit, so the term x^e stands at bit width - 1 - e.
 abbrev pub taps : ℕ → List ℕ → ℕ
 taps width [] = 0
 taps width (e ∷ es) = 2 ^ (width - 1 - e) + taps width es
 
--- "16 bits: polynomial x^16 + x^12 + x^5 + 1".
+-- x^16 + x^12 + x^5 + 1, of the 16-bit checksum.
 abbrev pub taps16 : ℕ
 taps16 = taps 16 (12 ∷ 5 ∷ 0 ∷ [])
 
--- "CRC8: x^8 + x^4 + x^3 + x^2 + 1".
+-- x^8 + x^4 + x^3 + x^2 + 1, of CRC8.
 abbrev pub taps8 : ℕ
 taps8 = taps 8 (4 ∷ 3 ∷ 2 ∷ 0 ∷ [])
 

@@ -132,7 +132,7 @@ pub extern "C" fn mfrc531_check_profile(profile: &[u8]) -> u32
     profile_number::verdict_number(profile::check(profile))
 }
 
-// The choice of profile for a safe start, from two images.
+// The choice for a safe start, from two images.
 #[no_mangle]
 pub extern "C" fn mfrc531_choose(user: &[u8], rescue: &[u8]) -> u32
     ensures { λ r. ⌜ r ≡ choiceNumber (chosen (now (user .entry)) (now (rescue .entry))) ⌝ }

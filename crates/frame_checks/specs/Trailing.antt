@@ -6,6 +6,6 @@ use mathlib.Core.List.{List}
 use Rattle.machine.specs.State.{Machine}
 use Rattle.machine.specs.Frames.{crcWidth, hasCrc}
 
--- How many bytes are "checked and dropped": none where the frame has no checksum.
+-- How many bytes at the end are compared and left out (manual 8.3): none where the frame has no checksum.
 abbrev pub trailingCrc : Machine → List ℕ → ℕ → ℕ
 trailingCrc m bytes lastBits = cond (hasCrc m bytes lastBits) (crcWidth m) 0

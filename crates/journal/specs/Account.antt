@@ -1,5 +1,5 @@
--- Demand 3, call by call: what the entries that a call adds say of its own answer, of the buffer that it was lent, and of the machine that it leaves.
--- The answer is a number, as the program gives it; `code` says which number stands for which answer.
+-- Demand 3 (manual 12.4), call by call: what the entries that a call adds say of its own answer, of the buffer that it was lent, and of the machine
+-- that it leaves. The answer is a number, as the program gives it; `code` says which number stands for which answer.
 -- Assumes nothing.
 use Prim.Native.Nat.{ℕ, suc, _/_, _%_, _<_}
 use mathlib.Core.Path.{_≡_}
@@ -43,14 +43,14 @@ pub record Programmed (before : Machine) (xs : List Entry) (next : Machine) : Ty
   pub in-order : waiting (before .command) ++ collect memoryBytes xs ≡ ended ++ waiting (next .command)
   -- those that ended are stored, in order, and nothing else is
   pub stored : next .eeprom ≡ storedBytes (before .eeprom) ended
-  -- "each is at its memory address after the call that finishes its programming"
+  -- and each of them is at its address when the call is over
   pub at-addresses : AtAddresses (next .eeprom) ended
 
 -- A call with its answer, the buffer lent after it, and the machine that it leaves, against the entries that it adds to the journal.
 pub record AccountedBy (xs : List Entry) (code : Answer → ℕ) (s : Both) (c : Call) (answer : ℕ) (buffer : List ℕ) (next : Machine) : Type 0 where
   -- the entries that stand are as they were, with these behind them
   pub appended : called c s .journal .entries ≡ s .journal .entries ++ xs
-  -- "A refused call adds nothing"
+  -- by a refused call none are added
   pub refused-adds-nothing : (n : ℕ) → refusal (s .machine) c ≡ suc n → xs ≡ []
   -- a byte that left to the host is the one byte that did, and the answer
   pub to-host : (b : ℕ) (bs : List ℕ) → collect (bytesTo e.host) xs ≡ b ∷ bs → (bs ≡ []) × (answer ≡ code (byte b))
@@ -60,7 +60,7 @@ pub record AccountedBy (xs : List Entry) (code : Answer → ℕ) (s : Both) (c :
   pub length-read : ReadOf (s .machine) c 0x04 → answer ≡ code (byte (length (s .journal .held)))
   pub crc-low-read : ReadOf (s .machine) c 0x0D → answer ≡ code (byte (checksumShown (s .journal) % 256))
   pub crc-high-read : ReadOf (s .machine) c 0x0E → answer ≡ code (byte (checksumShown (s .journal) / 256))
-  -- "A take's buffer begins with what left to it"
+  -- the bytes that left to a frame are the first ones of the buffer
   pub to-frame : take (length (collect (bytesTo e.frame) xs)) buffer ≡ collect (bytesTo e.frame) xs
   -- key bytes leave by twelve, and the machine has the key and KeyErr that are judged from them
   pub to-key : (k : ℕ) (ks : List ℕ) → collect keyBytes xs ≡ k ∷ ks → KeyJudged (k ∷ ks) next

@@ -1,4 +1,4 @@
--- Demand 3 over the machine's definition: what holds after every list of calls from a start that succeeds. Each clause of the demand has a
+-- Demand 3 (manual 12.4) over the machine's definition: what holds after every list of calls from a start that succeeds. Each of its clauses has a
 -- field of its own.
 -- Assumes nothing.
 use Prim.Native.Nat.{ℕ, suc, _+_, _-_, _/_, _%_, _<_, _≤_}
@@ -45,7 +45,7 @@ pub record MemoryIs (r : Memory) (c : Command) (eeprom : List ℕ) : Type 0 wher
   pub split : r .bytes ≡ finished ++ waiting c
   pub stored : eeprom ≡ storedBytes (r .image) finished
 
--- The checksum of what left to the latest CalcCRC since the last start, 0 without one.
+-- The checksum over the bytes that the CalcCRC begun last was given; 0 where none has begun since the chip was started.
 abbrev pub checksumShown : Journal → ℕ
 checksumShown j = let l = latestFrom noChecksum (j .entries) in resultOf (l .mode) (absorbedAll (l .mode) (l .preset) (l .input))
 
@@ -53,13 +53,13 @@ checksumShown j = let l = latestFrom noChecksum (j .entries) in resultOf (l .mod
 pub record Conserved (image : List ℕ) (s : Both) : Type 0 where
   -- the journal's held list is what the chip holds
   pub same-held : s .journal .held ≡ s .machine .held
-  -- "a byte was taken in exactly when fewer than 64 were held at its turn"
+  -- an offered byte joined the FIFO where it held at most 63 then, and else did not
   pub taken-in-when-under-64 : InTurn 0 (s .journal .entries)
-  -- "The bytes taken in, in order, are those that left .., in the order they left, followed by those the chip still holds"
+  -- the bytes that left, in their order, and then those held are the bytes that joined, in theirs
   pub in-order : collect bytesIn (s .journal .entries) ≡ collect bytesOut (s .journal .entries) ++ s .machine .held
-  -- "0Dh, 0Eh show the checksum of what left to the latest CalcCRC since the last start (0 without one)"
+  -- CRCResultLSB and CRCResultMSB have that checksum
   pub checksum-shown : crcResult (s .machine) ≡ checksumShown (s .journal)
-  -- "each is at its memory address after the call that finishes its programming, unless a start comes first"
+  -- EEPROM is the last start's image with the memory bytes stored whose programming has ended
   pub memory-stored : MemoryIs (memoryFrom (record { image = image; bytes = [] }) (s .journal .entries)) (s .machine .command) (s .machine .eeprom)
 
 -- A host read of a register, by its address after mapping, that is not refused.
@@ -73,7 +73,7 @@ pub record ReadOf (m : Machine) (c : Call) (register : ℕ) : Type 0 where
 abbrev pub ReadAnswers : Machine → ℕ → ℕ → Type 0
 ReadAnswers m register b = (c : Call) → ReadOf m c register → perform m c .answer ≡ byte b
 
--- "KeyErr and key are judged from the twelve as they leave".
+-- Key and KeyErr are those of these twelve bytes (manual 7.5).
 abbrev pub KeyJudged : List ℕ → Machine → Type 0
 KeyJudged ks m =
     (length ks ≡ 12) × (m .key ≡ record { loaded = formatHolds ks; bytes = judgedKey ks }) × (m .status .errors .keyErr ≡ not (formatHolds ks))
@@ -86,15 +86,15 @@ pub record NextCall (s : Both) : Type 0 where
   pub length-answer : ReadAnswers (s .machine) 0x04 (length (s .journal .held))
   pub crc-low-answer : ReadAnswers (s .machine) 0x0D (checksumShown (s .journal) % 256)
   pub crc-high-answer : ReadAnswers (s .machine) 0x0E (checksumShown (s .journal) / 256)
-  -- "reading an empty buffer removes nothing"
+  -- a host read with nothing held enters nothing
   pub empty-read : (address : ℕ) → s .journal .held ≡ [] → enter (hostRead address) (s .machine) (s .journal) ≡ s .journal
-  -- "A take's buffer begins with what left to it"
+  -- a take puts the bytes that were held first into its buffer
   pub frame-begins :
       (buffer : List ℕ) → refusal (s .machine) (takeFrame buffer) ≡ 0 →
       take (length (s .journal .held)) (perform (s .machine) (takeFrame buffer) .buffer) ≡ s .journal .held
-  -- "A refused call adds nothing"
+  -- a refused call leaves the journal
   pub refused-adds-nothing : (c : Call) (n : ℕ) → refusal (s .machine) c ≡ suc n → enter c (s .machine) (s .journal) ≡ s .journal
-  -- "each is at its memory address after the call that finishes its programming": an advance by as many clocks as were left, or more
+  -- latched bytes are at their addresses after an advance by as many clocks as were left, or more
   pub programmed-bytes-stand :
       (n a left : ℕ) (bs : List ℕ) → s .machine .command ≡ WriteE2 (programming a bs left) → refusal (s .machine) (advance n) ≡ 0 → left ≤ n →
       (i : ℕ) → i < length bs → getD (perform (s .machine) (advance n) .next .eeprom) (a + i) 0 ≡ getD bs i 0

@@ -1,4 +1,4 @@
--- Document 01, "The journal of demand 3": what is written down, and how bytes join and leave the journal's own held list.
+-- Manual 12.1: what is written down, and how bytes join and leave the journal's own held list.
 -- Assumes nothing.
 use Prim.Native.Nat.{ℕ, _+_, _-_, _<_, _≤_}
 use mathlib.Core.Bool.{Bool, true, false, cond}
@@ -43,7 +43,7 @@ pub data Entry : Type 0 where
   left : Destination → ℕ → Entry
   -- a byte that left to WriteE2, as the memory byte of this address
   toMemory : ℕ → ℕ → Entry
-  -- a take, a flush, a later start with its image: "which is entered too"
+  -- a take, a flush, a later start with its image, behind the bytes that left to it
   tookFrame : Entry
   flushed : Entry
   started : List ℕ → Entry
@@ -79,8 +79,7 @@ unfoldable pub collect : {X : Type 0} → (Entry → List X) → List Entry → 
 collect f [] = []
 collect f (e ∷ es) = f e ++ collect f es
 
--- "With under 64 in the held list a byte joins its end and is entered as taken in, else as refused": each offered byte at its turn, from a
--- held count on.
+-- Manual 12.2: an offered byte is taken in where the held list has at most 63 bytes, and else turned away; each at its turn, from a held count on.
 abbrev pub turn : ℕ → Entry → Type 0
 turn n (takenIn b) = n < 64
 turn n (turnedAway b) = 64 ≤ n
@@ -98,7 +97,7 @@ unfoldable pub InTurn : ℕ → List Entry → Type 0
 InTurn n [] = Unit {0}
 InTurn n (e ∷ es) = turn n e × InTurn (countAfter n e) es
 
--- What left to the latest CalcCRC since the last start: its mode, its preset and its input in order; without one, nothing from 0.
+-- The CalcCRC that began last, as the entries since a start have it: its mode, its preset and its input in order; without one, nothing from 0.
 pub record Latest : Type 0 where
   pub mode : ℕ
   pub preset : ℕ

@@ -1,4 +1,4 @@
--- Document 01, "The journal of demand 3": it "is fed the calls' arguments, the chip apart, and goes by a chip of demand 2's definition". It has
+-- Manual 12: the journal. Of a call it is given the arguments, and it goes by the machine of the definitions, never by the program's chip. It has
 -- entries and a held list of its own, and keeps the address of the latest WriteE2 and the number of its memory bytes.
 -- Assumes nothing.
 use Prim.Native.Nat.{ℕ, zero, suc, _+_, _%_, min}
@@ -34,7 +34,7 @@ empty = record { entries = []; held = []; base = 0; count = 0 }
 abbrev pub entered : Entry → Journal → Journal
 entered x j = record { entries = j .entries ++ x ∷ []; held = j .held; base = j .base; count = j .count }
 
--- "With under 64 in the held list a byte joins its end and is entered as taken in, else as refused."
+-- A byte that is offered (manual 12.2): it is added to the held list and entered as taken in, or, with 64 there, only entered, as turned away.
 unfoldable pub offer : ℕ → Journal → Journal
 offer b j =
     cond (ltb (length (j .held)) 64)
@@ -45,7 +45,7 @@ unfoldable pub offerAll : List ℕ → Journal → Journal
 offerAll [] j = j
 offerAll (b ∷ bs) j = offerAll bs (offer b j)
 
--- "The first held, if any, leaves".
+-- The oldest byte of the held list leaves (manual 12.3); of an empty list none does.
 abbrev pub leaveFrom : List ℕ → (ℕ → Entry) → Journal → Journal
 leaveFrom [] to j = j
 leaveFrom (b ∷ bs) to j = record { entries = j .entries ++ to b ∷ []; held = bs; base = j .base; count = j .count }
@@ -53,7 +53,7 @@ leaveFrom (b ∷ bs) to j = record { entries = j .entries ++ to b ∷ []; held =
 unfoldable pub leave : (ℕ → Entry) → Journal → Journal
 leave to j = leaveFrom (j .held) to j
 
--- "All held leave to a take, a flush or a later start, which is entered too."
+-- Every held byte leaves at once, by a take, a flush or a start, whose own entry comes behind them (manual 12.3).
 unfoldable pub leaveAll : (ℕ → Entry) → Entry → Journal → Journal
 leaveAll to x j = entered x (record { entries = j .entries ++ map to (j .held); held = []; base = j .base; count = j .count })
 
@@ -65,7 +65,7 @@ pub data Use : Type 0 where
   checksum : Use
   memory : Use
 
--- "a memory byte's address is the command's plus the number of its memory bytes before".
+-- The memory bytes of a WriteE2 go to its address and those behind it, one after the other (manual 12.3), so they are counted.
 abbrev pub counted : Journal → Journal
 counted j = record { entries = j .entries; held = j .held; base = j .base; count = j .count + 1 }
 
@@ -80,7 +80,7 @@ unfoldable pub leaveAllAs : List Use → Journal → Journal
 leaveAllAs [] j = j
 leaveAllAs (u ∷ us) j = leaveAllAs us (leaveAs u j)
 
--- What the active command takes at once of n held bytes, by document 01, "Commands".
+-- What the active command takes at once of n held bytes (manual 12.3, and 7.2 to 7.6).
 abbrev pub wanted : ℕ → ℕ → List Use → List Use
 wanted n least us = cond (leb least n) us []
 
@@ -117,7 +117,7 @@ basedWithin (programming a bs left) before j = j
 abbrev pub basedBy : Command → Journal → Journal → Journal
 basedBy c before j = withinWriteE2 (λ w. basedWithin w before j) j c
 
--- "ReadE2's bytes" are offered.
+-- The bytes that ReadE2 offers (manual 7.3).
 abbrev pub offersOf : Command → List ℕ → Journal → List ℕ
 offersOf c eeprom j = cond (eqb (codeOf c) 0x03 && leb 3 (length (j .held))) (readBytes eeprom (addressHeld j) (getD (j .held) 2 0)) []
 
@@ -170,11 +170,11 @@ enterAccepted (advance n) m j = enterClocks n m j
 enterAccepted (takeFrame buffer) m j = leaveAll (e.left e.frame) e.tookFrame j
 enterAccepted (deliver bytes parities lastBits) m j = offerAll (passed m bytes lastBits) j
 
--- Any call: "Nothing else moves a byte, nor does a refused call."
+-- Any call; a refused one adds nothing (manual 12).
 unfoldable pub enter : Call → Machine → Journal → Journal
 enter c m j = cond (eqb (refusal m c) 0) (enterAccepted c m j) j
 
--- The machine of demand 2's definition and the journal that goes by it, after a list of calls.
+-- The machine of the definitions and the journal that goes by it, after a list of calls.
 pub record Both : Type 0 where
   pub machine : Machine
   pub journal : Journal

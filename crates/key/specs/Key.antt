@@ -1,5 +1,4 @@
--- The key format of document 01, "Commands", LoadKeyE2 and LoadKey: "Each key byte is stored as two, upper nibble first, each holding
--- the nibble complemented in its upper half and true in its lower."
+-- The key format of LoadKeyE2 and LoadKey (manual 7.5): a byte for every nibble of the key, which has the nibble below and its complement above.
 -- Assumes nothing.
 use Prim.Native.Nat.{ℕ, _+_, _-_, _*_, _/_, _%_}
 use mathlib.Core.Bool.{Bool, true, _&&_, cond}
@@ -35,6 +34,6 @@ keyOf (u ∷ l ∷ bs) = (u % 16 * 16 + l % 16) ∷ keyOf bs
 abbrev pub emptyKey : List ℕ
 emptyKey = replicate 6 0
 
--- "Bad format: KeyErr and an empty key"; else the key that the bytes stand for.
+-- The key that the bytes stand for; where the format does not hold, none.
 abbrev pub judgedKey : List ℕ → List ℕ
 judgedKey bs = cond (formatHolds bs) (keyOf bs) emptyKey

@@ -1,4 +1,4 @@
--- The starred numbers and the readings, by computation from the definitions.
+-- The numbers and the readings of manual 15, by computation from the definitions.
 -- Assumes nothing.
 use mathlib.Core.Path.{refl}
 use lib.Count.{ones}

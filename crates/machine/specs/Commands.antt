@@ -1,4 +1,4 @@
--- Document 01, "Commands": what writing Command starts, and what the active command does with waiting bytes.
+-- Manual 7: what writing Command starts, and what the active command does with waiting bytes.
 -- Assumes nothing.
 use Prim.Native.Nat.{ℕ, _+_, _*_, _%_}
 use mathlib.Core.Bool.{Bool, true, false, cond, not, _&&_, _||_}
@@ -33,16 +33,16 @@ abbrev pub withKeyErr : Bool → Machine → Machine
 withKeyErr flag m =
     let e = m .status .errors in withErrors (fiveFlags flag (e .accessErr) (e .fifoOvfl) (e .crcErr) (e .parityErr)) m
 
--- "clears AccessErr, CRCErr and ParityErr".
+-- The three error flags that a write to Command clears (manual 7.1).
 abbrev pub clearedErrors : Machine → Machine
 clearedErrors m =
     let e = m .status .errors in withErrors (fiveFlags (e .keyErr) false (e .fifoOvfl) false false) m
 
--- "A command that ends by itself, or an unknown code, goes to Idle and sets IdleIRq".
+-- The end of a command that no write ended, and what a code of no command does: Idle, with its request (manual 7.1, 7.10).
 abbrev pub ended : Machine → Machine
 ended m = withCommand Idle (raisedIdle m)
 
--- The codes, document 01 and 005 section 11.
+-- The codes: manual 7.1, and 005 section 11.
 abbrev pub codeOf : Command → ℕ
 codeOf Idle = 0x00
 codeOf (WriteE2 w) = 0x01
@@ -60,11 +60,11 @@ codeOf TransceiveReceiving = 0x1E
 abbrev pub programs : Command → Bool
 programs c = whileProgramming (λ a bs left. true) false c
 
--- CalcCRC "reads presets 23h, 24h and mode at its start".
+-- CalcCRC keeps the mode (22h) and begins from the presets (23h, 24h) that stand when it is written: manual 7.6.
 abbrev pub checksumStarted : Machine → Machine
 checksumStarted m = withChecksum (record { register = presetOf (registerAt m 0x22) (registerAt m 0x23) (registerAt m 0x24); mode = registerAt m 0x22 }) m
 
--- A code is started; "Writing either code" of LoadKeyE2 and LoadKey "clears KeyErr".
+-- A code is started (manual 7.1); those of LoadKeyE2 and LoadKey clear KeyErr besides (manual 7.5).
 abbrev pub commandStarted : ℕ → Machine → Machine
 commandStarted code m =
     cond (eqb code 0x00) (withCommand Idle m)
@@ -79,11 +79,11 @@ commandStarted code m =
     (cond (eqb code 0x1E) (withCommand TransceiveSending m)
     (ended m))))))))))
 
--- "Writing Command ends the old command and clears AccessErr, CRCErr and ParityErr. While programming runs, the write is ignored".
+-- Manual 7.1: a write to Command clears three error flags and begins another command; during a programming it has no effect.
 unfoldable pub commandWritten : ℕ → Machine → Machine
 commandWritten v m = cond (programs (m .command)) m (commandStarted (v % 64) (clearedErrors m))
 
--- Arguments "are taken at once when all are held".
+-- Arguments leave together, as soon as the last of them is held (manual 7.1).
 abbrev pub enough : ℕ → Machine → Bool
 enough n m = leb n (length (m .held))
 
@@ -93,8 +93,8 @@ argument k m = getD (m .held) k 0
 abbrev pub taken : ℕ → Machine → Machine
 taken n m = withHeld (drop n (m .held)) m
 
--- WriteE2: "if the next address is below 010h, AccessErr and end, bytes left in place; else take waiting bytes up to the block end and
--- program".
+-- WriteE2 (manual 7.2): a byte that meets block 0 stays held, and the command ends with AccessErr; elsewhere the held bytes that fit into the block
+-- are latched, and their programming begins.
 abbrev pub latched : ℕ → Machine → Machine
 latched a m =
     cond (ltb a 0x10) (ended (withAccessErr m))
@@ -105,8 +105,7 @@ writeStepped addressing m = cond (enough 2 m) (withCommand (WriteE2 (ready (addr
 writeStepped (ready a) m = cond (enough 1 m) (latched a m) m
 writeStepped (programming a bs left) m = m
 
--- ReadE2: "If any wanted address is 080h or above: AccessErr, nothing offered. Else all are offered in order. Count 0 offers none and sets
--- no flag."
+-- ReadE2 (manual 7.3): bytes below 080h can be read. Where one of those asked for is not, AccessErr is set and none is read; count 0 asks for none.
 abbrev pub readable : ℕ → ℕ → Bool
 readable address count = eqb count 0 || leb (address + count) 0x80
 
@@ -117,14 +116,15 @@ abbrev pub readFrom : ℕ → ℕ → Machine → Machine
 readFrom address count m =
     cond (readable address count) (offeredAll (readBytes (m .eeprom) address count) m) (withAccessErr m)
 
--- LoadConfig: "address (mod 200h) 010h to 060h, else AccessErr. 32 bytes to 10h-2Fh, Page positions skipped."
+-- LoadConfig (manual 7.4): from an address of 010h to 060h, 32 bytes go over registers 10h-2Fh; any other address is an AccessErr.
 abbrev pub configuredFrom : ℕ → Machine → Machine
 configuredFrom address m =
     cond (leb 0x10 address && leb address 0x60)
     (withRegisters (overRegisters 0 (m .registers) (bytesFrom (m .eeprom) address 32)) m)
     (withAccessErr m)
 
--- LoadKey and LoadKeyE2: twelve bytes are judged; "Bad format, or a start above 1F4h: KeyErr and an empty key".
+-- LoadKey and LoadKeyE2 (manual 7.5): twelve bytes are judged. Where they have no key's format, or would reach beyond the memory, KeyErr is set and
+-- the key buffer is empty.
 abbrev pub keyJudged : List ℕ → Machine → Machine
 keyJudged bytes m =
     withKey (record { loaded = formatHolds bytes; bytes = judgedKey bytes }) (withKeyErr (m .status .errors .keyErr || not (formatHolds bytes)) m)
@@ -134,7 +134,7 @@ keyFrom address m =
     cond (ltb 0x1F4 address) (withKey (record { loaded = false; bytes = emptyKey }) (withKeyErr true m))
     (keyJudged (bytesFrom (m .eeprom) address 12) m)
 
--- CalcCRC "takes every byte, TxIRq when any was taken".
+-- CalcCRC takes all that is held (manual 7.6); TxIRq follows in `steppedAs`.
 abbrev pub checksumTaken : Machine → Machine
 checksumTaken m =
     let c = m .checksum in withChecksum (record { register = absorbedAll (c .mode) (c .register) (m .held); mode = c .mode }) (withHeld [] m)

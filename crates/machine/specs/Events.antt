@@ -1,4 +1,4 @@
--- The six events of document 01, "The chip on the bench", each with its answer, the next machine and the buffer lent.
+-- The six events (manual 9), each with its answer, the next machine and the buffer lent.
 -- Assumes nothing.
 use Prim.Native.Nat.{ℕ, zero, suc, _+_, _-_, _%_}
 use mathlib.Core.Bool.{Bool, true, false, cond}
@@ -18,8 +18,8 @@ use Rattle.machine.specs.Frames.{frameSent, txLastBits, sent, received}
 abbrev pub noInterrupts : Interrupts
 noInterrupts = record { timer = false; tx = false; rx = false; idle = false; hiAlert = false; loAlert = false }
 
--- "Start: every number 0 unless this page says otherwise, FIFO, requests, enables and key empty, command Idle, then registers 10h-2Fh from
--- EEPROM 010h-02Fh, Page positions skipped." Page is 80h and ErrorFlag 40h after a start.
+-- A start (manual 9.1): all is 0 or empty but Page, which is 80h, KeyErr, which is set, and registers 10h-2Fh, which are loaded from the image's bytes
+-- 010h-02Fh.
 unfoldable pub started : List ℕ → Machine
 started image =
     record {
@@ -53,11 +53,11 @@ readByte address m = registerRead (mapped (m .page) address) m
 unfoldable pub afterRead : ℕ → Machine → Machine
 afterRead address m = cond (eqb (mapped (m .page) address) 0x02) (alerted m (withHeld (restOf (m .held)) m)) m
 
--- The latched bytes are in EEPROM, and the next byte goes behind them: "000h follows 1FFh".
+-- The latched bytes are in EEPROM, and the next byte goes behind them, at 000h after 1FFh (manual 6.2).
 abbrev pub batchStored : ℕ → List ℕ → Machine → Machine
 batchStored a bs m = withCommand (WriteE2 (ready ((a + length bs) % 0x200))) (withEeprom (storedFrom (m .eeprom) a bs) m)
 
--- The end of a programming: "TxIRq is set if none wait"; waiting bytes are latched in the same clock.
+-- The end of a programming (manual 7.2): with no byte waiting Tx is requested; waiting bytes are latched in the same clock.
 abbrev pub programmed : ℕ → List ℕ → Machine → Machine
 programmed a bs m = cond (eqb (length (m .held)) 0) (raisedTx (batchStored a bs m)) (settled (batchStored a bs m))
 
@@ -80,7 +80,7 @@ clocks (suc n) m = clocks n (clock m)
 unfoldable pub advanced : ℕ → Machine → Machine
 advanced n m = alerted m (clocks n m)
 
--- "a take empties the FIFO into the buffer .. Later buffer bytes stay."
+-- A take (manual 9.5): nothing is held any more, and the buffer begins with the frame; what stood behind it there stays.
 unfoldable pub taken : Machine → Machine
 taken m = alerted m (sent m)
 
@@ -95,7 +95,7 @@ pub data Answer : Type 0 where
   refused : ℕ → Answer
   done : Answer
   byte : ℕ → Answer
-  -- "the number of bytes written and 0Fh bits 2-0"
+  -- how many bytes the frame has, and how many bits of its last byte are sent
   frame : ℕ → ℕ → Answer
 
 -- What a call leaves: its answer, the next machine and the buffer lent (empty where none is).
@@ -121,7 +121,7 @@ accepted m (advance n) = record { answer = done; next = advanced n m; buffer = [
 accepted m (takeFrame buffer) = record { answer = frame (length (frameSent m)) (txLastBits m); next = taken m; buffer = bufferTaken buffer m }
 accepted m (deliver bytes parities lastBits) = record { answer = done; next = delivered bytes parities lastBits m; buffer = [] }
 
--- Any call: "A refusal answers its number .. Chip and buffers are as before."
+-- Any call: by a refused one nothing changes, and its answer is the refusal's number (manual 10).
 unfoldable pub perform : Machine → Call → Outcome
 perform m c = cond (eqb (refusal m c) 0) (accepted m c) (record { answer = refused (refusal m c); next = m; buffer = bufferOf c })
 

@@ -1,4 +1,4 @@
--- Document 01, "FIFO and timer", the FIFO, and the alerts of "Registers". The FIFO counts by its held bytes in order.
+-- Manual 3: the FIFO and its alerts. The FIFO is the list of the bytes that it holds, the oldest ahead.
 -- Assumes nothing.
 use Prim.Native.Nat.{ℕ, _-_, _%_}
 use mathlib.Core.Bool.{Bool, true, false, cond, not, _&&_, _||_}
@@ -15,7 +15,7 @@ abbrev pub withFifoOvfl : Bool → Machine → Machine
 withFifoOvfl flag m =
     let e = m .status .errors in withErrors (fiveFlags (e .keyErr) (e .accessErr) flag (e .crcErr) (e .parityErr)) m
 
--- "A byte offered at 64 held is refused and sets FIFOOvfl".
+-- Manual 3.1, 3.2: a byte joins the end; with 64 there it is dropped, and FIFOOvfl set.
 unfoldable pub offered : ℕ → Machine → Machine
 offered b m = cond (ltb (length (m .held)) 64) (withHeld (m .held ++ b ∷ []) m) (withFifoOvfl true m)
 
@@ -24,7 +24,7 @@ unfoldable pub offeredAll : List ℕ → Machine → Machine
 offeredAll [] m = m
 offeredAll (b ∷ bs) m = offeredAll bs (offered b m)
 
--- "Reading an empty FIFO gives 00h", and removes nothing.
+-- A read of an empty FIFO answers 00h and removes nothing (manual 3.1).
 abbrev pub firstOf : List ℕ → ℕ
 firstOf [] = 0
 firstOf (b ∷ bs) = b
@@ -41,14 +41,14 @@ flushed m = withFifoOvfl false (withHeld [] m)
 abbrev pub waterLevel : Machine → ℕ
 waterLevel m = registerAt m 0x29 % 64
 
--- "LoAlert: held ≤ WaterLevel. HiAlert: 64 - held ≤ WaterLevel."
+-- Manual 3.3: LoAlert means that no more than WaterLevel bytes are held, HiAlert that no more than WaterLevel places are free.
 unfoldable pub loAlert : Machine → Bool
 loAlert m = leb (length (m .held)) (waterLevel m)
 
 unfoldable pub hiAlert : Machine → Bool
 hiAlert m = leb (64 - length (m .held)) (waterLevel m)
 
--- "Their requests are set when the flag is 0 before an event and 1 after it": the machine after an event, from before and after it.
+-- An alert that an event turns on is requested (manual 3.3): the machine after an event, from before and after it.
 unfoldable pub alerted : Machine → Machine → Machine
 alerted before after =
     withRequests

@@ -1,4 +1,4 @@
--- Document 01, "Commands": Transmit, Transceive and Receive; the frame that a take sends and the one that a delivery receives.
+-- Manual 7.7 to 7.9, and 8: Transmit, Receive and Transceive; the frame that a take sends and the one that a delivery receives.
 -- Assumes nothing.
 use Prim.Native.Nat.{ℕ, _+_, _-_, _/_, _%_}
 use mathlib.Core.Bool.{Bool, true, false, cond, not, _&&_, _||_}
@@ -14,8 +14,8 @@ use Rattle.machine.specs.Fifo.{registerAt, offeredAll}
 use Rattle.machine.specs.Timer.{TStartTxBegin, TStartTxEnd, TStopRx, timerStarted, timerStopped}
 use Rattle.machine.specs.Commands.{codeOf, raisedTx, raisedRx, ended}
 
--- What it is of a command that is sending, "Transmit, and Transceive before the take", of one that is receiving, "Receive, and Transceive after a
--- take", and of any other.
+-- What it is of a command that is sending (Transmit, and Transceive until its frame is taken), of one that is receiving (Receive, and Transceive from
+-- then on), and of any other.
 abbrev pub byFrames : {X : Type 0} → X → X → X → Command → X
 byFrames sends receives other Idle = other
 byFrames sends receives other (WriteE2 w) = other
@@ -35,7 +35,7 @@ sending c = byFrames true false false c
 abbrev pub receiving : Command → Bool
 receiving c = byFrames false true false c
 
--- A frame's checksum, by 22h-24h "as they stand at take or delivery": "low byte first; one byte for CRC8".
+-- A frame's checksum goes by 22h-24h of that moment (manual 8.3). With CRC8 it is one byte, else two, of which the low one is sent first.
 abbrev pub crcWidth : Machine → ℕ
 crcWidth m = cond (CRC8 (registerAt m 0x22)) 1 2
 
@@ -49,18 +49,18 @@ crcBytes m bytes = cond (CRC8 (registerAt m 0x22)) (crcValue m bytes ∷ []) (cr
 abbrev pub txLastBits : Machine → ℕ
 txLastBits m = m .bitFraming % 8
 
--- The frame sent: what is held, "CRC added if 22h bit 2 is set and 0Fh bits 2-0 are 0".
+-- The frame sent (manual 8.1): what is held, with its checksum where TxCRCEn (22h bit 2) is set and no last bits are.
 abbrev pub frameSent : Machine → List ℕ
 frameSent m = m .held ++ cond (bitSet (registerAt m 0x22) 2 && eqb (txLastBits m) 0) (crcBytes m (m .held)) []
 
--- "For one frame TxBegin comes before TxEnd"; each starts the timer where its bit of 2Bh is set.
+-- A frame's beginning, and after it its end; each starts the timer where its bit of 2Bh is set (manual 5.1).
 abbrev pub txBegun : Machine → Machine
 txBegun m = cond (TStartTxBegin m) (timerStarted m) m
 
 abbrev pub txEnded : Machine → Machine
 txEnded m = cond (TStartTxEnd m) (timerStarted m) m
 
--- After the frame: "TxIRq. Then Idle, or receiving."
+-- After the frame Transmit ends, and Transceive receives (manual 7.7, 7.9).
 abbrev pub afterSending : Command → Machine → Machine
 afterSending c m = cond (sending c && eqb (codeOf c) 0x1E) (withCommand TransceiveReceiving m) (ended m)
 
@@ -68,7 +68,7 @@ afterSending c m = cond (sending c && eqb (codeOf c) 0x1E) (withCommand Transcei
 unfoldable pub sent : Machine → Machine
 sent m = afterSending (m .command) (raisedTx (txEnded (txBegun (withHeld [] m))))
 
--- "Parity (22h bit 0; bit 1 = odd) compares the count of ones in each complete byte with its parity bit."
+-- Manual 8.4: a byte and its parity bit have an odd number of ones together where ParityOdd (22h bit 1) is set, and else an even number.
 abbrev pub parityWrong : Machine → ℕ → ℕ → Bool
 parityWrong m b p = not (eqb ((ones b + p) % 2) (bit (registerAt m 0x22) 1))
 
@@ -84,8 +84,8 @@ completeBytes bytes lastBits = cond (eqb lastBits 0) bytes (take (length bytes -
 abbrev pub parityFails : Machine → List ℕ → List ℕ → ℕ → Bool
 parityFails m bytes parities lastBits = bitSet (registerAt m 0x22) 0 && anyParityWrong m (completeBytes bytes lastBits) parities
 
--- "With 22h bit 3 the trailing CRC is checked and dropped, wrong or not; a frame shorter than it, or with last bits, sets CRCErr and passes
--- whole."
+-- Manual 8.3: with RxCRCEn (22h bit 3) a frame ends in its checksum, which is compared and never offered. A frame that is too short to have one, or has
+-- last bits, is offered as it is, with CRCErr.
 abbrev pub hasCrc : Machine → List ℕ → ℕ → Bool
 hasCrc m bytes lastBits = bitSet (registerAt m 0x22) 3 && (not (ltb (length bytes) (crcWidth m)) && eqb lastBits 0)
 
@@ -110,7 +110,7 @@ withFrameErrors crc parity m =
 abbrev pub rxStopped : Machine → Machine
 rxStopped m = cond (TStopRx m) (timerStopped m) m
 
--- A delivery: "Bytes are offered in order; RxIRq; Idle."
+-- A delivery (manual 9.6): the frame's bytes go to the FIFO, Rx is requested, and the command ends.
 unfoldable pub received : List ℕ → List ℕ → ℕ → Machine → Machine
 received bytes parities lastBits m =
     ended

@@ -1,4 +1,4 @@
--- Document 01, chapter by chapter, and what is proved over it.
+-- The rules of docs/MANUAL.md, one file after the other, and what is proved over them.
 pub mod Refusals
 pub mod WellFormed
 pub mod Registers

@@ -1,4 +1,4 @@
--- EEPROM addresses and blocks, document 01, "Commands".
+-- Manual 6: EEPROM addresses and blocks.
 -- Assumes nothing.
 use Prim.Native.Nat.{ℕ, zero, suc, _+_, _-_, _*_, _%_}
 use mathlib.Core.Bool.{cond}
@@ -6,7 +6,7 @@ use mathlib.Core.List.{List, [], _∷_}
 use lib.Dec.{eqb}
 use lib.ListN.{take, drop, set}
 
--- "Arguments, low byte first"; addresses count mod 200h.
+-- An address from its two bytes, the low one first; nine bits of it count (manual 6.2).
 abbrev pub addressOf : ℕ → ℕ → ℕ
 addressOf low high = (low + 256 * high) % 0x200
 
@@ -23,11 +23,11 @@ storedFrom eeprom address (b ∷ bs) = storedFrom (set eeprom address b) (addres
 abbrev pub roomInBlock : ℕ → ℕ
 roomInBlock address = 16 - address % 16
 
--- "5.8 ms" at 13.56 MHz.
+-- 5.8 ms at 13.56 MHz (manual 6.3).
 abbrev pub programmingClocks : ℕ
 programmingClocks = 78_648
 
--- Thirty-two bytes over registers 10h-2Fh, "Page positions skipped": every eighth one, from the first on.
+-- Thirty-two bytes over registers 10h-2Fh, but for the Page positions: every eighth one, from the first on.
 unfoldable pub overRegisters : ℕ → List ℕ → List ℕ → List ℕ
 overRegisters position [] bytes = []
 overRegisters position (r ∷ rs) [] = r ∷ rs

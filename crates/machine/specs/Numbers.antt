@@ -1,4 +1,4 @@
--- Document 01, "Numbers to meet": those marked *, as one list under one statement.
+-- Manual 15, the numbers that are proved: one record has all of them.
 -- Assumes nothing.
 use Prim.Native.Nat.{ℕ, _/_, _%_}
 use mathlib.Core.Bool.{true, false}
@@ -75,31 +75,31 @@ abbrev pub timerRun : ℕ → List Call
 timerRun clocks = hostWrite 0x00 0x00 ∷ hostWrite 0x2C 3 ∷ hostWrite 0x2A 1 ∷ hostWrite 0x09 0x02 ∷ advance clocks ∷ []
 
 pub record NumbersToMeet : Type 0 where
-  -- "CRC preset 6363h: 00 00 gives A0 1E; 12 34 gives 26 CF." ChannelRedundancy 00h: 16 bits, not complemented.
+  -- From preset 6363h the checksum of 00 00 is A0 1E, and that of 12 34 is 26 CF. ChannelRedundancy 00h: 16 bits, not complemented.
   pub crc-6363-of-00-00 : lowHigh (checksum 0x00 0x63 0x63 (0x00 ∷ 0x00 ∷ [])) ≡ 0xA0 ∷ 0x1E ∷ []
   pub crc-6363-of-12-34 : lowHigh (checksum 0x00 0x63 0x63 (0x12 ∷ 0x34 ∷ [])) ≡ 0x26 ∷ 0xCF ∷ []
-  -- "Preset FFFFh, CRC3309: 00 00 00 gives CC C6." ChannelRedundancy 20h.
+  -- From preset FFFFh and with CRC3309 that of 00 00 00 is CC C6. ChannelRedundancy 20h.
   pub crc3309-FFFF-of-00-00-00 : lowHigh (checksum 0x20 0xFF 0xFF (0x00 ∷ 0x00 ∷ 0x00 ∷ [])) ≡ 0xCC ∷ 0xC6 ∷ []
-  -- "Key A0 A1 A2 A3 A4 A5 is stored 5A F0 5A E1 5A D2 5A C3 5A B4 5A A5", and read back from there.
+  -- The key A0 to A5, as its twelve bytes and read back from them.
   pub key-stored : stored exampleKey ≡ exampleStored
   pub key-format : formatHolds exampleStored ≡ true
   pub key-read : keyOf exampleStored ≡ exampleKey
-  -- "Prescaler 21 passes; 22 and 24 answer 11 at 2Ah", in the shipped profile, which passes itself.
+  -- In the shipped profile, which passes itself, 21 is the last prescaler that passes; 22 and 24 are refused with 11, at 2Ah.
   pub shipped-passes : judged fixedBits shipped ≡ pass
   pub prescaler-21 : judged fixedBits (shippedWith 0x2A 21) ≡ pass
   pub prescaler-22 : judged fixedBits (shippedWith 0x2A 22) ≡ refuse-at 11 0x2A
   pub prescaler-24 : judged fixedBits (shippedWith 0x2A 24) ≡ refuse-at 11 0x2A
-  -- "64 bytes held: a 65th sets FIFOOvfl."
+  -- The FIFO has room for 64 bytes, and one more sets FIFOOvfl.
   pub sixty-four-held : length (afterStart (offers 64) .held) ≡ 64
   pub no-overflow-at-64 : afterStart (offers 64) .status .errors .fifoOvfl ≡ false
   pub overflow-at-65 : afterStart (offers 65) .status .errors .fifoOvfl ≡ true
-  -- "WaterLevel 8: LoAlert at 8, not 9; HiAlert at 56, not 55." The shipped FIFOLevel is 08h.
+  -- The shipped FIFOLevel is 08h: LoAlert ends between 8 and 9 bytes, and HiAlert begins between 55 and 56.
   pub lo-alert-at-8 : loAlert (afterStart (offers 8)) ≡ true
   pub lo-alert-not-at-9 : loAlert (afterStart (offers 9)) ≡ false
   pub hi-alert-at-56 : hiAlert (afterStart (offers 56)) ≡ true
   pub hi-alert-not-at-55 : hiAlert (afterStart (offers 55)) ≡ false
-  -- "LoadConfig from 060h works, 061h is AccessErr": the bytes from there are in the registers, or these are as the start left them; either
-  -- way the command has ended.
+  -- LoadConfig from 060h, the last address allowed, and from the one behind it: the bytes from there are in the registers, or these are as the
+  -- start left them; either way the command has ended.
   pub load-config-060 : loadConfig 0x060 .registers ≡ distinctLoaded
   pub load-config-060-flag : loadConfig 0x060 .status .errors .accessErr ≡ false
   pub load-config-060-ends : loadConfig 0x060 .command ≡ Idle
@@ -107,11 +107,11 @@ pub record NumbersToMeet : Type 0 where
   pub load-config-061 : loadConfig 0x061 .status .errors .accessErr ≡ true
   pub load-config-061-registers : loadConfig 0x061 .registers ≡ started distinctImage .registers
   pub load-config-061-ends : loadConfig 0x061 .command ≡ Idle
-  -- "ReadE2 07Fh count 1 works, count 2 is AccessErr": the byte there is held, or none.
+  -- ReadE2 of the last readable byte, and of that and the one behind it: the byte there is held, or none.
   pub read-e2-count-1 : readE2 0x07F 1 .held ≡ 0x10 ∷ []
   pub read-e2-count-1-flag : readE2 0x07F 1 .status .errors .accessErr ≡ false
   pub read-e2-count-2 : readE2 0x07F 2 .status .errors .accessErr ≡ true
   pub read-e2-count-2-held : readE2 0x07F 2 .held ≡ []
-  -- "Reload 3, prescaler 1: TimerIRq at clock 6, not 5."
+  -- A timer with reload 3 and prescaler 1 ends at its sixth clock.
   pub timer-not-at-5 : afterStart (timerRun 5) .status .requests .timer ≡ false
   pub timer-at-6 : afterStart (timerRun 6) .status .requests .timer ≡ true

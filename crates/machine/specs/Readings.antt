@@ -1,4 +1,4 @@
--- Document 01, "Readings that look right and aren't", each by an example of the right reading; and examples that a made-up chip does not meet.
+-- Rules that are easily misread (manual 15), each by an example of the right reading; and examples that a made-up chip does not meet.
 -- Assumes nothing.
 use Prim.Native.Nat.{ℕ, _*_}
 use mathlib.Core.Bool.{true, false}
@@ -46,15 +46,15 @@ abbrev pub receives : List ℕ → List ℕ → Machine
 receives bytes parities = afterStart (withCRC ++ (hostWrite 0x01 0x16 ∷ deliver bytes parities 0 ∷ []))
 
 pub record Readings : Type 0 where
-  -- "Testing the prescaler in LoadConfig: the chip loads anything"
+  -- LoadConfig brings in every value, a prescaler of 24 too: manual 7.4
   pub load-config-loads-anything : registerAt (afterDamaged (command 0x07 (0x30 ∷ 0x00 ∷ []))) 0x2A ≡ 24
-  -- "Running WriteE2 on from 1FFh to 000h. It meets block 0": AccessErr and end, the byte left in place
+  -- after 1FFh WriteE2 is at block 0, where it ends with AccessErr and takes no byte: manual 7.2
   pub block-0-is-met : clock lastByte .command ≡ Idle
   pub block-0-flag : clock lastByte .status .errors .accessErr ≡ true
   pub block-0-byte-left : clock lastByte .held ≡ 0x55 ∷ []
-  -- "Dropping the oldest byte at overflow"
+  -- a full FIFO keeps its oldest byte: manual 3.1
   pub oldest-stays : firstOf (afterStart (hostWrite 0x02 0x77 ∷ offers 64) .held) ≡ 0x77
-  -- "Taking a new TPreScaler into a timer already running"
+  -- a timer runs on by the prescaler that it was started with: manual 5.1
   pub prescaler-kept : afterStart (newPrescaler 5) .status .requests .timer ≡ false
   pub prescaler-kept-6 : afterStart (newPrescaler 6) .status .requests .timer ≡ true
   -- a host read answers the byte held first, and FIFOLength the held count
@@ -71,13 +71,13 @@ pub record Readings : Type 0 where
   -- one clock of two
   pub programming-goes-on :
       clock (withCommand (WriteE2 (programming 0x16C (0xAA ∷ []) 2)) (started shippedImage)) .command ≡ WriteE2 (programming 0x16C (0xAA ∷ []) 1)
-  -- "Each 2^prescaler clocks make one timer step": reload 2, prescaler 3, so 16 clocks
+  -- with prescaler 3 a timer step has 8 clocks, so that reload 2 is over after 16: manual 5.2
   pub prescaler-3-not-at-15 : afterStart (prescaler3 15) .status .requests .timer ≡ false
   pub prescaler-3-at-16 : afterStart (prescaler3 16) .status .requests .timer ≡ true
   -- ReadE2 answers the memory's bytes, and a start loads them: 011h and 012h are shipped as 58h and 3Fh
   pub read-e2-bytes : afterStart (command 0x03 (0x11 ∷ 0x00 ∷ 2 ∷ [])) .held ≡ 0x58 ∷ 0x3F ∷ []
   pub start-loads : registerAt (afterStart []) 0x11 ≡ 0x58
-  -- a frame is sent with its CRC, "low byte first", and without it where TxLastBits are not 0
+  -- a frame is sent with its CRC, low byte first, and without it where TxLastBits are not 0
   pub frame-with-crc : take 4 (taken (sends 0) .buffer) ≡ 0x12 ∷ 0x34 ∷ 0x26 ∷ 0xCF ∷ []
   pub frame-answer : taken (sends 0) .answer ≡ frame 4 0
   pub frame-of-last-bits : taken (sends 7) .answer ≡ frame 2 7

@@ -1,5 +1,5 @@
--- Document 01, "Refusal numbers": which call is refused with which number. "When several apply: 7 first (a start judges no old chip), then 1, 2,
--- 3, 5, 6, then 4." The number 0 stands for no refusal.
+-- Manual 10: which call is refused with which number. A call's tests come one after the other, 7 ahead of all others and 4 behind them; of a start
+-- only the image is judged. The number 0 stands for no refusal.
 -- Assumes nothing.
 use Prim.Native.Nat.{ℕ, _<_}
 use Rattle.bits.specs.Bits.{Bytes}
@@ -11,7 +11,7 @@ use Rattle.machine.specs.State.{Machine}
 use Rattle.machine.specs.Frames.{sending, receiving}
 use Rattle.machine.specs.WellFormed.{wellFormed}
 
--- A call: one of document 01's events with its own arguments and buffer, the chip apart.
+-- A call: one of the six events (manual 9), with all that it is given but the chip.
 pub data Call : Type 0 where
   -- from an EEPROM image
   start : List ℕ → Call
@@ -26,7 +26,7 @@ pub data Call : Type 0 where
   -- of bytes, their parity bits, and the last-bit count
   deliver : List ℕ → List ℕ → ℕ → Call
 
--- 3: "more than 65,535 clocks asked".
+-- An advance by more than this is refused with 3.
 abbrev pub clockLimit : ℕ
 clockLimit = 65_535
 
@@ -34,7 +34,7 @@ unfoldable pub allBits : List ℕ → Bool
 allBits [] = true
 allBits (p ∷ ps) = leb p 1 && allBits ps
 
--- 5: "received frame of 0 or over 64 bytes, parity list of another length, parity value above 1, or last-bit count above 7".
+-- What a delivery may bring; anything else is refused with 5: 1 to 64 bytes, as many parity values of 0 or 1, and at most 7 last bits.
 abbrev pub frameFormed : List ℕ → List ℕ → ℕ → Bool
 frameFormed bytes parities lastBits =
     leb 1 (length bytes) && (leb (length bytes) 64 && (eqb (length parities) (length bytes) && (allBits parities && leb lastBits 7)))

@@ -1,4 +1,4 @@
--- Document 01, "Registers": paging, what each register reads, and what a write to it does.
+-- Manual 2 and 4: paging, what each register reads, and what a write to it does.
 -- Assumes nothing.
 use Prim.Native.Nat.{ℕ, _+_, _-_, _*_, _/_, _%_}
 use mathlib.Core.Bool.{Bool, true, false, cond, not, _&&_, _||_}
@@ -12,7 +12,7 @@ use Rattle.machine.specs.Fifo.{registerAt, offered, firstOf, flushed, lo
 use Rattle.machine.specs.Timer.{timerStarted, timerStopped}
 use Rattle.machine.specs.Commands.{codeOf, programs, commandWritten}
 
--- "UsePageSelect 1: register = 8 × PageSelect + address mod 8. Otherwise the address itself."
+-- Manual 2.1: with UsePageSelect (Page bit 7) the low three bits of the address choose within page PageSelect; without it the address is the register.
 abbrev pub mapped : ℕ → ℕ → ℕ
 mapped page address = cond (bitSet page 7) (8 * (page % 8) + address % 8) address
 
@@ -20,11 +20,11 @@ abbrev pub flag : Bool → ℕ
 flag true = 1
 flag false = 0
 
--- InterruptEn and InterruptRq: "5 Timer, 4 Tx, 3 Rx, 2 Idle, 1 HiAlert, 0 LoAlert"; bit 7 reads 0.
+-- InterruptEn and InterruptRq (manual 4.1): the timer in bit 5, Tx in 4, Rx in 3, Idle in 2, HiAlert in 1 and LoAlert in 0; bits 7 and 6 read 0.
 abbrev pub interruptByte : Interrupts → ℕ
 interruptByte i = 32 * flag (i .timer) + 16 * flag (i .tx) + 8 * flag (i .rx) + 4 * flag (i .idle) + 2 * flag (i .hiAlert) + flag (i .loAlert)
 
--- "A write with bit 7 set sets the marked bits, else clears them."
+-- Manual 4.2: a bit that is 1 in the byte written becomes what bit 7 of that byte is; any other stays.
 abbrev pub marked : ℕ → ℕ → Bool → Bool
 marked v k old = cond (bitSet v k) (bitSet v 7) old
 
@@ -32,7 +32,7 @@ abbrev pub interruptsWritten : ℕ → Interrupts → Interrupts
 interruptsWritten v i =
     sixSources (marked v 5 (i .timer)) (marked v 4 (i .tx)) (marked v 3 (i .rx)) (marked v 2 (i .idle)) (marked v 1 (i .hiAlert)) (marked v 0 (i .loAlert))
 
--- "IRq is 1 if any request is also enabled."
+-- Manual 4.3: some source has both its request and its enable.
 abbrev pub IRq : Machine → Bool
 IRq m =
     (m .status .enables .timer && m .status .requests .timer)
@@ -42,30 +42,30 @@ IRq m =
     || (m .status .enables .hiAlert && m .status .requests .hiAlert)
     || (m .status .enables .loAlert && m .status .requests .loAlert)
 
--- ErrorFlag: "6 KeyErr, 5 AccessErr, 4 FIFOOvfl, 3 CRCErr, 1 ParityErr". "Err = any set."
+-- ErrorFlag (manual 2.4): KeyErr is bit 6, AccessErr bit 5, FIFOOvfl bit 4, CRCErr bit 3 and ParityErr bit 1. Err is 1 with any of them.
 abbrev pub errorByte : Errors → ℕ
 errorByte e = 64 * flag (e .keyErr) + 32 * flag (e .accessErr) + 16 * flag (e .fifoOvfl) + 8 * flag (e .crcErr) + 2 * flag (e .parityErr)
 
 abbrev pub Err : Machine → Bool
 Err m = not (eqb (errorByte (m .status .errors)) 0)
 
--- "ModemState (bits 6-4) reads 0."
+-- Bits 6-4 of PrimaryStatus are always 0 (manual 2.3).
 abbrev pub modemState : Machine → ℕ
 modemState m = 0
 
--- PrimaryStatus: "3 IRq, 2 Err, 1 HiAlert, 0 LoAlert".
+-- PrimaryStatus (manual 2.3): IRq is bit 3, Err bit 2, HiAlert bit 1 and LoAlert bit 0.
 abbrev pub primaryStatus : Machine → ℕ
 primaryStatus m = 16 * modemState m + 8 * flag (IRq m) + 4 * flag (Err m) + 2 * flag (hiAlert m) + flag (loAlert m)
 
--- SecondaryStatus: "7 TRunning, 6 E2Ready, 5 CRCReady (always 1 here), 2-0 RxLastBits". "E2Ready = not programming."
+-- SecondaryStatus (manual 2.3): TRunning is bit 7; E2Ready, bit 6, is 0 during a programming; CRCReady, bit 5, is always 1; RxLastBits are bits 2-0.
 abbrev pub secondaryStatus : Machine → ℕ
 secondaryStatus m = 128 * flag (m .timer .running) + 64 * flag (not (programs (m .command))) + 32 + m .status .rxLastBits
 
--- "From its start 0Dh, 0Eh show the checksum of the bytes taken so far".
+-- CRCResultLSB and CRCResultMSB (manual 7.6): the checksum over what CalcCRC has taken since it was last written.
 abbrev pub crcResult : Machine → ℕ
 crcResult m = resultOf (m .checksum .mode) (m .checksum .register)
 
--- A register's byte, by its address after mapping; "one shared register seen at 00h, 08h .. 38h".
+-- A register's byte, by its address after mapping; the first address of every page is Page (manual 2.2).
 unfoldable pub registerRead : ℕ → Machine → ℕ
 registerRead r m =
     cond (eqb (r % 8) 0) (m .page)
@@ -85,11 +85,11 @@ registerRead r m =
     (cond (leb 0x10 r && ltb r 0x30) (registerAt m r)
     0))))))))))))))
 
--- Page: bits 7 and 2-0 are stored.
+-- Page (manual 2.1): bits 7 and 2-0 are stored.
 abbrev pub pageWritten : ℕ → Machine → Machine
 pageWritten v m = withPage (128 * bit v 7 + v % 8) m
 
--- Control: "5 StandBy, 4 PowerDown (stored only), 2 TStopNow, 1 TStartNow, 0 FlushFIFO. One write flushes, then stops, then starts".
+-- Control (manual 2.4): first FlushFIFO, bit 0, then TStopNow, bit 2, then TStartNow, bit 1; StandBy, bit 5, and PowerDown, bit 4, are kept.
 abbrev pub controlWritten : ℕ → Machine → Machine
 controlWritten v m =
     let flushes = cond (bitSet v 0) (flushed m) m in
@@ -97,7 +97,7 @@ controlWritten v m =
     let starts = cond (bitSet v 1) (timerStarted stops) stops in
     withControl (32 * bit v 5 + 16 * bit v 4) starts
 
--- A write to a register, by its address after mapping; writes to the others "do nothing".
+-- A write to a register, by its address after mapping; at the others it has no effect (manual 2.2).
 unfoldable pub registerWritten : ℕ → ℕ → Machine → Machine
 registerWritten r v m =
     cond (eqb (r % 8) 0) (pageWritten v m)

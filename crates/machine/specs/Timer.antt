@@ -1,4 +1,4 @@
--- Document 01, "FIFO and timer", the timer.
+-- Manual 5: the timer.
 -- Assumes nothing.
 use Prim.Native.Nat.{ℕ, _+_, _-_, _%_, _^_}
 use mathlib.Core.Bool.{Bool, true, false, cond, _||_}
@@ -23,7 +23,7 @@ TStartTxBegin m = bitSet (registerAt m 0x2B) 0
 abbrev pub TStartTxEnd : Machine → Bool
 TStartTxEnd m = bitSet (registerAt m 0x2B) 1
 
--- "delivery with 2Bh bit 2 or 3" stops the timer.
+-- With either of these bits a delivery stops the timer (manual 5.3).
 abbrev pub TStopRx : Machine → Bool
 TStopRx m = bitSet (registerAt m 0x2B) 2 || bitSet (registerAt m 0x2B) 3
 
@@ -34,7 +34,8 @@ stoppedAt v = record { running = false; value = v; prescaler = 0; phase = 0 }
 abbrev pub runningAt : ℕ → ℕ → ℕ → Timer
 runningAt v p k = record { running = true; value = v; prescaler = p; phase = k }
 
--- "A start event .. loads TimerReload, keeps TPreScaler and zeroes the phase. If reload is 0 or prescaler above 21, the timer is stopped at 0".
+-- A start event (manual 5.1): the timer runs down from TimerReload, by the prescaler that stands in 2Ah then. From 0, or by a prescaler of 22 or more,
+-- it does not run, and its value is 0.
 abbrev pub loadedTimer : ℕ → ℕ → Timer
 loadedTimer reload p = cond (eqb reload 0 || ltb 21 p) (stoppedAt 0) (runningAt reload p 0)
 
@@ -48,8 +49,8 @@ abbrev pub raisedTimer : Machine → Machine
 raisedTimer m =
     let r = m .status .requests in withRequests (sixSources true (r .tx) (r .rx) (r .idle) (r .hiAlert) (r .loAlert)) m
 
--- One timer step: "a value above 1 falls by one; at 1 TimerIRq is set and the value becomes 0 and stops, or, with TAutoRestart, becomes
--- TimerReload (stopping if that is 0)".
+-- One timer step (manual 5.2, 5.3): 1 less; from 1 the timer's request is set, and the timer is stopped at 0 or, by TAutoRestart, runs again from
+-- TimerReload, where that is not 0.
 abbrev pub restarted : ℕ → ℕ → Timer
 restarted reload p = cond (eqb reload 0) (stoppedAt 0) (runningAt reload p 0)
 
@@ -59,7 +60,7 @@ timerStepped m =
     (withTimer (runningAt (m .timer .value - 1) (m .timer .prescaler) 0) m)
     (withTimer (cond (TAutoRestart m) (restarted (TimerReload m) (m .timer .prescaler)) (stoppedAt 0)) (raisedTimer m))
 
--- One clock: "Each 2^prescaler clocks make one timer step".
+-- One clock; a timer step is due at every 2^prescaler of them (manual 5.2).
 unfoldable pub timerClock : Machine → Machine
 timerClock m =
     cond (m .timer .running)

@@ -1,4 +1,4 @@
--- Document 02, R-6: the profile check refuses just the water levels at which the chip never rests, and the chip itself judges no level.
+-- Manual 11.4: the profile check refuses just the water levels at which the chip never rests, and the chip itself judges no level.
 -- Assumes nothing.
 use mathlib.Core.Bool.{Bool, true, false, _||_}
 use mathlib.Core.List.{List, [], _∷_}

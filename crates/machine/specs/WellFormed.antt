@@ -1,4 +1,4 @@
--- Document 01, "Refusal numbers": when a state is well formed, clause by clause. A malformed one gets refusal 7.
+-- Manual 10.3: when a state is well formed, clause by clause. A malformed one gets refusal 7.
 -- Assumes nothing.
 use Prim.Native.Nat.{ℕ, _+_, _%_, _/_, _^_}
 use mathlib.Core.Bool.{Bool, true, false, cond, not, _&&_, _||_}
@@ -12,19 +12,19 @@ use Rattle.machine.specs.State.{Machine, Command, Writing, Timer, Checks
 use Rattle.machine.specs.State.{Idle, WriteE2, ReadE2, LoadConfig, LoadKeyE2, LoadKey, CalcCRC, Transmit, Receive, TransceiveSending, TransceiveReceiving, addressing, ready, programming}
 use Rattle.machine.specs.Memory.{programmingClocks}
 
--- "held bytes are at most 64".
+-- The FIFO holds 64 bytes or fewer.
 abbrev pub fifoFormed : List ℕ → Bool
 fifoFormed held = leb (length held) 64
 
--- "a running timer has value 1 to 255, kept prescaler at most 21 and phase below 2^prescaler; a stopped one has kept prescaler and phase 0".
+-- While the timer runs its value is 1 to 255, the prescaler that it keeps 0 to 21, and its phase less than a step. Stopped, it keeps 0 in both.
 abbrev pub timerFormed : Timer → Bool
 timerFormed t =
     cond (t .running)
     (leb 1 (t .value) && (leb (t .value) 255 && (leb (t .prescaler) 21 && ltb (t .phase) (2 ^ (t .prescaler)))))
     (eqb (t .prescaler) 0 && eqb (t .phase) 0)
 
--- "programming clocks left are 0 to 78,648, above 0 exactly when 1 to 16 latched bytes wait inside one block at 010h or above and WriteE2 is
--- active"; "the next address is below 200h". A machine programs only within WriteE2.
+-- A programming has between 1 and 78,648 clocks left and between 1 and 16 bytes, which do not cross a block's end and lie outside block 0. A next
+-- address is one of the 200h. A machine programs only within WriteE2.
 abbrev pub writingFormed : Writing → Bool
 writingFormed addressing = true
 writingFormed (ready a) = ltb a 0x200
@@ -34,7 +34,7 @@ writingFormed (programming a bs left) =
 abbrev pub commandFormed : Command → Bool
 commandFormed c = withinWriteE2 writingFormed true c
 
--- "no command could take waiting bytes, or end over them, at once": the most bytes that may wait while each is active.
+-- What a command would do with held bytes is done: the most bytes that may wait while each is active.
 abbrev pub writingWaits : Writing → ℕ
 writingWaits addressing = 1
 writingWaits (ready a) = 0
@@ -56,11 +56,11 @@ waits TransceiveReceiving = 64
 abbrev pub nothingPends : Command → List ℕ → Bool
 nothingPends c held = leb (length held) (waits c)
 
--- "a CRC8 checksum below 100h".
+-- In the mode of CRC8 the register is a byte.
 abbrev pub checksumFormed : Checksum → Bool
 checksumFormed c = cond (CRC8 (c .mode)) (ltb (c .register) 0x100) true
 
--- "bits that always read 0 are 0": Page bits 6-3, Control but for bits 5 and 4, and SecondaryStatus bits 4-3, above RxLastBits.
+-- What a register never shows as 1 is 0: Page bits 6-3, Control but for bits 5 and 4, and SecondaryStatus bits 4-3, above RxLastBits.
 abbrev pub bitsFormed : ℕ → ℕ → ℕ → Bool
 bitsFormed page control rxLastBits = eqb (page / 8 % 16) 0 && (eqb (control % 16) 0 && (eqb (control / 64) 0 && ltb rxLastBits 8))
 

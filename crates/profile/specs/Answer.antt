@@ -1,5 +1,5 @@
--- What a check answers: a pass, or a refusal's number, with the register's address for 10 to 13 and the bit for 10. Document 01, "Refusal
--- numbers", and document 02, R-6.
+-- What a check answers: a pass, or a refusal's number, with the register's address for 10 to 13 and the bit for 10. Manual 10.1
+-- and 11.3.
 -- Assumes nothing.
 use Prim.Native.Nat.{ℕ}
 use mathlib.Core.Bool.{Bool, true, false, cond}
@@ -27,7 +27,7 @@ isPass (refuse-bit n register bit) = false
 abbrev pub orElse : Answer → Answer → Answer
 orElse a b = cond (isPass a) b a
 
--- The number and values of the papers for each case of the program's enums.
+-- The number and values of the manual for each case of the program's enums.
 abbrev pub refusalAnswer : Refusal → Answer
 refusalAnswer Length = refuse 9
 refusalAnswer (FixedBit register bit) = refuse-bit 10 register bit

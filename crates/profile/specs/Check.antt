@@ -1,5 +1,5 @@
--- The profile check: document 01, "Profiles" and the refusal numbers 9 to 12, and document 02, R-6, number 13. After the length, one walk by
--- register address; at one address the fixed bits come before the values. The table of fixed bits is a parameter.
+-- The profile check (manual 11.3, 11.4), which gives the refusals 9 to 13. After the length, one walk by register address; at one address the fixed
+-- bits come before the values. The table of fixed bits is a parameter.
 -- Assumes nothing.
 use Prim.Native.Nat.{ℕ, zero, suc, _+_, _-_, _%_}
 use mathlib.Core.Bool.{Bool, _&&_, _||_, not, cond}
@@ -23,7 +23,7 @@ unfoldable pub firstRefusal : (ℕ → Answer) → ℕ → ℕ → Answer
 firstRefusal judge zero from = pass
 firstRefusal judge (suc n) from = orElse (judge from) (firstRefusal judge n (from + 1))
 
--- 10: a fixed bit differs. It "names .. its lowest differing bit".
+-- 10: a fixed bit differs. The lowest such bit is named.
 abbrev pub differsAt : FixedBits → ℕ → ℕ → Bool
 differsAt entry byte k = bitSet (entry .0) k && not (eqb (bit byte k) (bit (entry .1) k))
 
@@ -41,7 +41,7 @@ aboveLimit own register value limit = eqb register own && ltb limit value
 abbrev pub prescalerRefused : ℕ → ℕ → Bool
 prescalerRefused register clock = aboveLimit 0x2A register (clock % 32) 21
 
--- 12: TimerReload (2Ch) 0 while TStartTxBegin or TStartTxEnd (TimerControl, 2Bh, bits 0 and 1) is set; "named at 2Ch".
+-- 12: TimerReload (2Ch) 0 while TStartTxBegin or TStartTxEnd (TimerControl, 2Bh, bits 0 and 1) is set. It is judged at 2Ch.
 abbrev pub reloadRefused : ℕ → ℕ → ℕ → Bool
 reloadRefused register control reload = eqb register 0x2C && (eqb reload 0 && (bitSet control 0 || bitSet control 1))
 

@@ -1,4 +1,4 @@
--- The check of water levels, document 02, R-6, by examples: the shipped profile with another FIFOLevel (29h).
+-- The check of water levels (manual 11.4) by examples: the shipped profile with another FIFOLevel (29h).
 -- Assumes nothing.
 use mathlib.Core.Path.{_≡_}
 use Rattle.profile.specs.Answer.{pass, refuse-at, refuse-bit}

@@ -1,4 +1,4 @@
-// The profile check: thirty-two bytes for registers 10h to 2Fh pass, or are refused with a number of documents 01 and 02.
+// The profile check: thirty-two bytes for registers 10h to 2Fh pass, or are refused with a number of manual 11.
 ghost use mathlib.Core.Path.{_≡_};
 ghost use Prim.Native.Nat.{_<_};
 ghost use Rattle.profile.specs.Answer.{answerOf};
@@ -17,7 +17,7 @@ pub enum Refusal {
     FixedBit { register: u8, bit: u8 },
     // 11: TPreScaler is above 21.
     PreScaler { register: u8 },
-    // 12: TimerReload is 0 while a TStartTx bit is set.
+    // 12: TimerReload is 0, and TStartTxBegin or TStartTxEnd is set.
     Reload { register: u8 },
     // 13: WaterLevel is above 31.
     WaterLevel { register: u8 },

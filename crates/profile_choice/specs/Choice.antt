@@ -1,5 +1,5 @@
--- The choice of profile for a safe start, document 01, "Profiles": "gets two 512-byte images and hands back bytes 010h-02Fh of the user's
--- image if they pass, else of the rescue image". It "gives 2 or 8 only".
+-- The choice for a safe start (manual 11.5): of two images, the user's and the rescue image, the first one whose start-up profile passes the check,
+-- and that part of it. Its refusals are 2 and 8.
 -- Assumes nothing.
 use Prim.Native.Nat.{ℕ}
 use mathlib.Core.Bool.{Bool, _&&_, cond}
@@ -39,7 +39,7 @@ partOf from-user user rescue = startUpProfile user
 partOf from-rescue user rescue = startUpProfile rescue
 partOf (refused n) user rescue = []
 
--- Document 01's meaning of each case of the program's enum.
+-- What each case of the program's enum stands for.
 abbrev pub chosenOf : Choice → Chosen
 chosenOf User = from-user
 chosenOf Rescue = from-rescue

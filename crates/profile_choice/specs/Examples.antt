@@ -1,4 +1,4 @@
--- The choice of profile by examples: it goes by the check, water levels included (document 02, R-6).
+-- The choice of profile by examples: it goes by the check, water levels included (manual 11.4).
 -- Assumes nothing.
 use Prim.Native.Nat.{ℕ}
 use mathlib.Core.List.{List}

@@ -1,4 +1,4 @@
-// The choice of profile for a safe start: the user's start-up profile where it passes the check, else the rescue image's.
+// The choice for a safe start (manual 11.5): the user's start-up profile where it passes the check, else the rescue image's.
 //
 // An enum cannot hold a reference, so the answer stands in two functions over the same images: `choose` says whose profile it is or why
 // there is none, and `chosen` hands back that part of what was lent. A profile is always 32 bytes and a refusal the empty part.

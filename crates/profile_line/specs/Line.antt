@@ -1,5 +1,4 @@
--- The line for a verdict, document 01, "Profiles": "one line, newline ended: `pass` or `refuse 11 at 2A` (for 9: `refuse 9`; for 10:
--- `refuse 10 at 22 bit 6`)".
+-- The line for a verdict (manual 11.3), with its newline: `pass`; `refuse 9`; `refuse 10 at 22 bit 6`; and for 11 to 13 as `refuse 13 at 29`.
 -- Assumes nothing.
 use Prim.Native.Nat.{ℕ, _≤_}
 use mathlib.Core.Path.{_≡_}

@@ -1,4 +1,4 @@
-// Runs document 01's number to meet for WriteE2: five bytes written one by one at 16Ch, with no clock between, take three programmings.
+// Runs the number of manual 15 for WriteE2: five bytes from 16Ch on, each written as soon as the one before, take three programmings.
 //
 // The first byte is programmed alone, since none waits behind it yet; then the three that fit before the block's end at 16Fh; then the last,
 // at 170h. Each programming takes 78,648 clocks. A line is printed one clock before the end of each and at its end.

@@ -83,7 +83,7 @@ module _ (c : Chip) (formed : chipFormed c ≡ true) where
   pub few-held : length (view c .held) ≤ 64
   few-held = well-formedness .held-at-most-64 (view c) machine-well
 
-  -- "RxLastBits" is below 8.
+  -- RxLastBits is below 8.
   pub last-bits-small : core c .rxLastBits < 8
   unfolding wellFormed viewOf
   last-bits-small =

@@ -1,4 +1,4 @@
--- When a chip is well formed: document 01's sentence, clause by clause. `machine` judges what a machine shows (its WellFormed.antt); here stands what
+-- When a chip is well formed (manual 10.3), clause by clause. `machine` judges what a machine shows (its WellFormed.antt); here stands what
 -- only the chip's own fields show. A field that the active command does not use is judged only where a clause names it.
 -- Assumes nothing.
 use Prim.Native.Nat.{ℕ, _+_, _%_}
@@ -10,7 +10,7 @@ use Rattle.machine.specs.WellFormed.{wellFormed}
 use Rattle.state.specs.View.{Core, at, core, view, batchStart}
 use Rattle.state.specs.declared.Chip.{Chip}
 
--- "the command is one listed here, and sending or receiving agrees with it".
+-- The stages that there are: a code of manual 7.1, with bits 7 and 6 as that command has them.
 abbrev pub listed : ℕ → Bool
 listed stage =
     eqb stage 0x00
@@ -26,11 +26,11 @@ listed stage =
     || (eqb stage 0x5E
     || eqb stage 0x9E))))))))))
 
--- "WriteE2 is active", with its address or without.
+-- WriteE2 is active, with its address or without.
 abbrev pub writes : ℕ → Bool
 writes stage = eqb stage 0x01 || eqb stage 0x41
 
--- "1 to 16 latched bytes wait inside one block at 010h or above".
+-- Between 1 and 16 bytes are latched, and they lie in one block, which is not block 0.
 abbrev pub batchFits : ℕ → ℕ → Bool
 batchFits next latched =
     leb 1 latched && (leb latched 16 && (leb (batchStart next latched % 16 + latched) 16 && leb 0x10 (batchStart next latched)))
@@ -39,7 +39,7 @@ batchFits next latched =
 abbrev pub agree : Bool → Bool → Bool
 agree a b = cond a b (not b)
 
--- "programming clocks left are .. above 0 exactly when 1 to 16 latched bytes wait .. and WriteE2 is active"; "the next address is below 200h".
+-- Clocks are left just where such a batch is latched within WriteE2; and the next address is one of the 200h.
 abbrev pub stageFormed : ℕ → ℕ → ℕ → ℕ → Bool
 stageFormed stage latched left next = listed stage && (agree (ltb 0 left) (writes stage && batchFits next latched) && ltb next 0x200)
 
@@ -47,7 +47,8 @@ stageFormed stage latched left next = listed stage && (agree (ltb 0 left) (write
 abbrev pub isFlag : ℕ → Bool
 isFlag x = leb x 1
 
--- "bits that always read 0 are 0", of the bytes that a machine has as flags: key loaded, InterruptEn, InterruptRq, ErrorFlag and TRunning, by the index.
+-- What a register never shows as 1 is 0, of the bytes that a machine has as flags, by their index: key loaded, InterruptEn, InterruptRq, ErrorFlag and
+-- TRunning.
 abbrev pub byteFormed : ℕ → ℕ → Bool
 byteFormed k x =
     cond (eqb k 2) (isFlag x)

@@ -25,7 +25,7 @@ coded done = 0
 coded (byte b) = 0x100 * b
 coded (frame count lastBits) = 0x100 * count + 0x1_0000 * lastBits
 
--- The number that a call on a chip is refused with, 0 for none: "7 first (a start judges no old chip)".
+-- The number that a call on a chip is refused with, 0 for none: 7 ahead of all others, but for a start, which may find any chip (manual 10.2).
 unfoldable pub chipRefusal : Chip → Call → ℕ
 chipRefusal c (start image) = refusal (view c) (start image)
 chipRefusal c (hostRead address) = cond (chipFormed c) (refusal (view c) (hostRead address)) 7
@@ -36,7 +36,7 @@ chipRefusal c (deliver bytes parities lastBits) = cond (chipFormed c) (refusal (
 
 -- Every call.
 pub record Meets (c : Chip) (call : Call) (next : Chip) (answer : ℕ) (buffer : List ℕ) : Type 0 where
-  -- "A refusal answers its number .. Chip and buffers are as before."
+  -- a refused call: its number, and nothing has changed
   pub refuses : (n : ℕ) → chipRefusal c call ≡ suc n → (answer ≡ coded (refused (suc n))) × (next ≡ c) × (buffer ≡ bufferOf call)
   -- every other call
   pub accepts :

@@ -69,7 +69,7 @@ coreOf clocks numbers state = coreBy (at clocks) (at numbers) (at state)
 abbrev pub core : Chip → Core
 core c = coreOf (c .clocks) (c .numbers) (c .state)
 
--- "the held count is their wrapped difference".
+-- How many bytes are held: from the read position on to the write position, both counted modulo 256 (manual 13.1).
 abbrev pub heldCount : ℕ → ℕ → ℕ
 heldCount read write = (write + 256 - read) % 256
 
@@ -92,7 +92,7 @@ interruptsOf x = record { timer = bitSet x 5; tx = bitSet x 4; rx = bitSet x 3; 
 abbrev pub errorsOf : ℕ → m.Errors
 errorsOf x = record { keyErr = bitSet x 6; accessErr = bitSet x 5; fifoOvfl = bitSet x 4; crcErr = bitSet x 3; parityErr = bitSet x 1 }
 
--- Where the latched bytes go: they end where the next byte goes, and "000h follows 1FFh".
+-- Where the latched bytes go: they end where the next byte goes, and after 1FFh comes 000h.
 abbrev pub batchStart : ℕ → ℕ → ℕ
 batchStart next latched = (next + 0x200 - latched) % 0x200
 

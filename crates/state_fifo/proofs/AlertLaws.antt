@@ -14,7 +14,7 @@ use Rattle.machine.specs.Registers.{flag}
 use Rattle.state.specs.View.{raised}
 use Rattle.state_fifo.specs.Alerts.{alertsOf, alertedFrom}
 
--- "64 - held ≤ WaterLevel", turned around.
+-- HiAlert's inequality, turned around.
 pub high-level : (held level : ℕ) → leb (64 - level) held ≡ leb (64 - held) level
 high-level held level = go (leb (64 - level) held) refl
   where

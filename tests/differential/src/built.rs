@@ -1,4 +1,4 @@
-//! Chips that are built field by field, well formed or not. The library gives refusal 7 exactly where document 01's sentences do, as
+//! Chips that are built field by field, well formed or not. The library gives refusal 7 exactly where the clauses of manual 10.3 do, as
 //! `chip_memory::plain_of` has them; 7 goes before every other refusal, and a refused call leaves every byte of the chip. From well-formed
 //! ones calls are made on both chips.
 

@@ -157,7 +157,7 @@ fn stage_of(command: Command) -> u8 {
     }
 }
 
-/// "1 to 16 latched bytes wait inside one block at 010h or above". They end right before the next address, which is below 200h.
+/// The latched bytes are a batch: between 1 and 16 of them, in one block that is not block 0. They end right before the next address, which is below 200h.
 fn batch_waits(next: u16, latched: u8) -> bool {
     if !(1..=16).contains(&latched) {
         return false;
@@ -169,8 +169,7 @@ fn batch_waits(next: u16, latched: u8) -> bool {
 
 /// The plain chip of a memory; the reason when the memory is no chip's state, which is refusal 7.
 ///
-/// Document 01, "A state is malformed (7) unless", one sentence after the other, and nothing else: what the active command does not use is
-/// judged only where a sentence names it.
+/// Manual 10.3, one clause after the other, and nothing else: what the active command does not use is judged only where a clause names it.
 pub fn plain_of<const FAULT: u8>(chip: &ChipMemory) -> Result<FaultyChip<FAULT>, &'static str> {
     let flag = |byte: u8, name| match byte {
         0 => Ok(false),
@@ -274,7 +273,7 @@ pub fn reserved_is_zero(chip: &ChipMemory) -> bool {
 /// while nothing is programmed, WriteE2's next address while it has none, bit 6 of its stage while it programs, reserved fields, padding.
 /// Of a key that is not loaded: it is zeros, or as it was before the call.
 pub fn difference<const FAULT: u8>(plain: &FaultyChip<FAULT>, chip: &ChipMemory, before: &ChipMemory) -> Option<String> {
-    // Document 01's conditions hold again, so that the next call is not refused.
+    // It is well formed again, so that the next call is not refused.
     if let Err(reason) = plain_of::<{ fault::NONE }>(chip) {
         return Some(format!("the library's chip is malformed after an accepted call: {reason}"));
     }

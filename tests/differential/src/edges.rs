@@ -1,4 +1,4 @@
-//! Directed calls at the edges of the C interface, with the answers that document 01 wants.
+//! Directed calls at the edges of the C interface, with the answers that the manual wants.
 //!
 //! Lengths of 2^32 and more, which a library that keeps a length in fewer bits would take for small ones: the memory is there, as pages that
 //! nothing has touched. Arguments of fewer than 64 bits whose registers hold something above bit 31, as a C caller may leave it. And starts
@@ -34,7 +34,7 @@ unsafe fn calls(memory: *mut u8) -> Result<(), String> {
         if answer == wanted {
             Ok(())
         } else {
-            Err(format!("{what}: answered {answer:08X}h, document 01 wants {wanted:08X}h"))
+            Err(format!("{what}: answered {answer:08X}h, the manual wants {wanted:08X}h"))
         }
     };
     expect("start with an image of 2^32 + 512 bytes", library::mfrc531_start(chip_at, memory, FOUR_GIB + 512), 2)?;
@@ -87,7 +87,7 @@ pub fn upper_halves() -> Result<(), String> {
             ("read 05h", read(chip, UPPER | 0x05), 0x6700),
         ];
         match answers.iter().find(|(_, answer, wanted)| answer != wanted) {
-            Some((what, answer, wanted)) => Err(format!("{what}: answered {answer:08X}h, document 01 wants {wanted:08X}h")),
+            Some((what, answer, wanted)) => Err(format!("{what}: answered {answer:08X}h, the manual wants {wanted:08X}h")),
             None => Ok(()),
         }
     }

@@ -1,4 +1,4 @@
-//! Calls on two chips: the proved library by its C interface, and a plain model written from document 01. After each call the answer,
+//! Calls on two chips: the proved library by its C interface, and a plain model written from the requirements. After each call the answer,
 //! every lent byte and the whole chip are compared. See README.md.
 
 mod built;

@@ -1,11 +1,11 @@
 //! The MFRC531 reader bench in plain Rust: host registers, FIFO, EEPROM, timer, requests, CRC, commands and frames.
 //!
-//! Written from document 01 ("Statement of what to build and rules"), as firmware people would write it, to be compared with the proved
+//! Written from the requirements (the manual has their rules), as firmware people would write it, to be compared with the proved
 //! library and raced against it. Nothing here allocates; every event but `advance` and the commands' block moves is a few instructions, and
 //! `advance` jumps over clocks in which nothing happens.
 //!
 //! The types leave no room for most malformed states: the stages of WriteE2 stand inside the command, and what a timer keeps exists only
-//! while it runs. What the types do allow and document 01 does not is judged where a chip's memory is read (`chip_memory`).
+//! while it runs. What the types do allow and the rules do not is judged where a chip's memory is read (`chip_memory`).
 
 /// Clocks of 13.56 MHz that one programming of the EEPROM takes: 5.8 ms.
 pub const PROGRAMMING_CLOCKS: u32 = 78_648;
@@ -472,7 +472,7 @@ impl<const FAULT: u8> FaultyChip<FAULT> {
         Ok(chip)
     }
 
-    /// Document 01's "A state is malformed (7) unless", as far as the types leave it open. The events lead from well-formed chips to such.
+    /// When a chip is well formed (manual 10.3), as far as the types leave it open. The events lead from well-formed chips to such.
     #[inline]
     pub fn well_formed(&self) -> bool {
         let timer = match self.timer.run {
@@ -928,7 +928,7 @@ impl<const FAULT: u8> FaultyChip<FAULT> {
     }
 }
 
-/// InterruptEn or InterruptRq after a write: bit 7 set sets the marked bits, else they are cleared.
+/// InterruptEn or InterruptRq after a write (manual 4.2): the bits that it marks become what its bit 7 is.
 #[inline]
 fn marked(old: u8, byte: u8) -> u8 {
     let marks = byte & request::ALL;

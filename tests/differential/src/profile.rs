@@ -1,11 +1,11 @@
-//! The check of a start-up profile and the choice for a safe start: document 01's "Profiles" and document 02's R-6 in plain Rust, and their
-//! comparison with the library's `mfrc531_check_profile` and `mfrc531_choose`.
+//! The check of a start-up profile and the choice for a safe start (manual 11) in plain Rust, and their comparison with the library's
+//! `mfrc531_check_profile` and `mfrc531_choose`.
 
 use crate::call::{lively, SHIPPED};
 use crate::library;
 use crate::random::Random;
 
-/// Bits that are 0 in every profile, by register: document 01's six, and the digits that 005 prints.
+/// Bits that are 0 in every profile, by register: the digits that 005 prints (manual 11.2).
 const FIXED: [(u8, u8); 14] = [
     (0x11, 0x80),
     (0x12, 0xC0),
@@ -23,7 +23,7 @@ const FIXED: [(u8, u8); 14] = [
     (0x2D, 0xFC),
 ];
 
-/// Why a profile does not pass, in the order of document 01.
+/// Why a profile does not pass.
 #[derive(Clone, Copy, PartialEq, Eq, Debug)]
 pub enum Fault {
     Not32Bytes,
@@ -179,7 +179,7 @@ mod tests {
         profile
     }
 
-    /// Document 02, R-6: levels, and their place among the refusals.
+    /// Water levels, and their place among the refusals.
     #[test]
     fn water_levels() {
         let refused = Err(Fault::WaterLevelAbove31);
@@ -195,7 +195,7 @@ mod tests {
         assert_eq!(Fault::WaterLevelAbove31.answer(), 0x29_0D);
     }
 
-    /// Document 01's numbers, and the order of refusals.
+    /// The numbers of manual 15, and the order of refusals.
     #[test]
     fn profiles() {
         assert_eq!(check(&SHIPPED), Ok(()));

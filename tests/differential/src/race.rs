@@ -1,6 +1,6 @@
 //! The library raced with the plain Rust chip: nanoseconds per call, in turn in one run, and their ratios, as a table in Markdown.
 //!
-//! The plain chip runs twice: with refusal 7 judged at each call, as document 01 asks of a chip that a host hands over as memory and as the
+//! The plain chip runs twice: with refusal 7 judged at each call, as it is due to a chip that a host hands over as memory and as the
 //! library does, and without it, since its types rule most malformed states out. All three make the same calls, each through a function that
 //! is not inlined into the loop, on a chip that stays where it lies. A figure is the least of many rounds, since a busy machine only adds.
 

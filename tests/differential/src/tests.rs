@@ -1,4 +1,4 @@
-//! The plain chip by itself: document 01's "Numbers to meet" and "Readings that look right and aren't", and some traps beside them.
+//! The plain chip by itself: the numbers of manual 15 and the readings that are easily taken wrong, and some traps beside them.
 
 use crate::call::{Fill, Image};
 use crate::checksum::bit_by_bit;
@@ -55,7 +55,7 @@ fn numbered_image() -> Vec<u8> {
     (0..512).map(|place| (place % 251) as u8).collect()
 }
 
-// ---- Numbers to meet -------------------------------------------------------------------------------------------------------------------
+// ---- Numbers ---------------------------------------------------------------------------------------------------------------------------
 
 fn checksum(mode: u8, preset: u8, bytes: &[u8]) -> [u8; 2] {
     let mut chip = chip();
@@ -307,7 +307,7 @@ fn five_bytes_at_16c() {
     assert_eq!(chip.command, Command::WriteE2(Writing::Ready { next: 0x171 }));
 }
 
-// ---- Readings that look right and aren't, and traps ------------------------------------------------------------------------------------
+// ---- Readings, and traps ---------------------------------------------------------------------------------------------------------------
 
 #[test]
 fn write_meets_block_0_after_the_end() {
@@ -509,8 +509,8 @@ fn well_formed(fields: &str) -> bool {
     plain_of::<{ fault::NONE }>(memory_with(fields).chip()).is_ok()
 }
 
-/// Document 01's "programming clocks left are 0 to 78,648, above 0 exactly when 1 to 16 latched bytes wait inside one block at 010h or above and
-/// WriteE2 is active; .. the next address is below 200h".
+/// Clocks are left, 78,648 or fewer, just where WriteE2 has latched a batch that fits one block other than block 0; the next address is one of the 200h
+/// (manual 10.3).
 #[test]
 fn clocks_left_are_judged() {
     // Stage, latched count, clocks left, next address; whether that is a chip's state.
@@ -564,7 +564,7 @@ fn clocks_left_are_judged() {
     }
 }
 
-/// "no command could take waiting bytes, or end over them, at once": as many may wait, and no more. Other stages are malformed.
+/// How many bytes may wait under each command, so that it has nothing to do with them (manual 10.3): as many, and no more. Other stages are malformed.
 #[test]
 fn waiting_bytes_are_judged() {
     let mut most = [None; 256];

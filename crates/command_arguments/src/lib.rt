@@ -1,4 +1,4 @@
-// The arguments of a command: the address that waits in the FIFO.
+// The arguments of a command (manual 7.1): the address that waits in the FIFO.
 ghost use Rattle.machine.specs.Memory.{addressOf};
 ghost use Rattle.machine.specs.Commands.{argument as Commands·argument};
 ghost use Rattle.state.specs.Lent.{stateSlots};

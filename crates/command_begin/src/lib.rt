@@ -1,5 +1,5 @@
-// A write to Command (01h): the old command ends and the written code is started, or the write is ignored while programming runs. What the new command does
-// with bytes that wait already is no part of it.
+// A write to Command (manual 7.1): the old command ends and the written code is started, or the write is ignored while programming runs. What the
+// new command does with bytes that wait already is no part of it.
 ghost use mathlib.Core.Path.{_≡_};
 ghost use mathlib.Core.Bool.{true};
 ghost use Rattle.machine.specs.State.{withCommand};

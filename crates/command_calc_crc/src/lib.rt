@@ -1,4 +1,4 @@
-// CalcCRC: it takes every held byte into the checksum and goes on. Its contract holds whatever command is active.
+// CalcCRC (manual 7.6): it takes every held byte into the checksum and goes on. Its contract holds whatever command is active.
 ghost use mathlib.Core.Path.{_≡_};
 ghost use Rattle.crc.specs.Checksum.{absorbedAll};
 ghost use Rattle.machine.specs.State.{CalcCRC};

@@ -1,4 +1,4 @@
-// LoadConfig: the registers that it loads from the EEPROM, and its step.
+// LoadConfig (manual 7.4): the registers that it loads from the EEPROM, and its step.
 //
 // The step waits until its address is held, then takes it and ends. Its contract holds whatever command is active; `command_work` chooses by the stage.
 ghost use Rattle.machine.specs.State.{LoadConfig};

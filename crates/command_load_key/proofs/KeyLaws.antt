@@ -40,7 +40,7 @@ module _ (m : Machine) (bytes : List ℕ) where
       ap (λ (b : Bool). withKey (record { loaded = true; bytes = made }) (withKeyErr b m)) (sym (or-false (m .status .errors .keyErr)))
       ∙ ap (λ (t : Bool). judgedBy m t made) (sym e) ∙ ap (judgedBy m (formatHolds bytes)) is
 
-  -- Other bytes give KeyErr and an empty key.
+  -- Other bytes give KeyErr and no key.
   pub judged-empty : formatHolds bytes ≡ false → keyEmptied m ≡ keyJudged bytes m
   judged-empty e = simp (e, or-true)
 

@@ -1,4 +1,4 @@
-// LoadKey and LoadKeyE2: the key that they load, and their steps.
+// LoadKey and LoadKeyE2 (manual 7.5): the key that they load, and their steps.
 //
 // A step waits until all its arguments are held, then takes them and ends. Its contract holds whatever command is active.
 ghost use Prim.Native.Nat.{_≤_};
@@ -52,7 +52,7 @@ fn stored_key(eeprom: &[u8; 512], address: u16) -> [u8; 12]
     bytes
 }
 
-// KeyErr and an empty key.
+// KeyErr is set, and no key is loaded.
 fn key_emptied(state: &mut [u8; 24], key: &mut [u8; 6])
     ensures { λ r.
         let before = stateKey (now (state .entry)) (now (key .entry)) in
@@ -65,7 +65,7 @@ fn key_emptied(state: &mut [u8; 24], key: &mut [u8; 6])
     failed(state, 0x40);
 }
 
-// Twelve bytes are judged: the key that they stand for, or KeyErr and an empty key.
+// Twelve bytes are judged: the key that they stand for, or KeyErr and none.
 fn key_judged(state: &mut [u8; 24], key: &mut [u8; 6], bytes: [u8; 12])
     ensures { λ r.
         let before = stateKey (now (state .entry)) (now (key .entry)) in
@@ -82,7 +82,7 @@ fn key_judged(state: &mut [u8; 24], key: &mut [u8; 6], bytes: [u8; 12])
     key_emptied(state, key);
 }
 
-// The twelve bytes of the EEPROM from an address on are judged; an address above 1F4h gives KeyErr and an empty key.
+// The twelve bytes of the EEPROM from an address on are judged; an address above 1F4h gives KeyErr and no key.
 fn key_from(state: &mut [u8; 24], key: &mut [u8; 6], eeprom: &[u8; 512], address: u16)
     ensures { λ r.
         let before = stateKeyEeprom (now (state .entry)) (now (key .entry)) (now (eeprom .entry)) in

@@ -1,4 +1,4 @@
-// ReadE2: the bytes of the EEPROM that it offers, and its step.
+// ReadE2 (manual 7.3): the bytes of the EEPROM that it offers, and its step.
 //
 // The step waits until all its arguments are held, then takes them and ends. Its contract holds whatever command is active.
 ghost use mathlib.Core.Path.{_≡_};

@@ -1,4 +1,4 @@
-// What the active command does with waiting bytes, by its stage.
+// What the active command does with waiting bytes (manual 7), by its stage.
 ghost use Rattle.machine.specs.Commands.{settled};
 ghost use Rattle.state.specs.Lent.{assembled};
 ghost use Rattle.state.specs.Turns.{TurnsAll};

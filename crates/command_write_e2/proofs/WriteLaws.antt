@@ -63,7 +63,7 @@ held-behind slots p (suc n) (suc k) = held-behind slots (p + 1) n k ∙ ap (λ (
 start : (a n : ℕ) → a < 0x200 → n ≤ 16 → batchStart ((a + n) % 0x200) n ≡ a
 start a n below few = omega arith
 
--- The fields agree with each other: it has its address, or latched bytes wait inside one block, so many from an address on.
+-- The fields agree with each other: it has its address, or so many bytes are latched, from an address on and not beyond the block.
 pub ready-agrees : (next : ℕ) → next < 0x200 → stageFormed 0x41 0 0 next ≡ true
 ready-agrees next below = lt-ltb next 0x200 below
 

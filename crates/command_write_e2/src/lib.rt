@@ -1,5 +1,5 @@
-// WriteE2, in two steps: it takes its address, and it latches held bytes up to the end of a block, which starts a programming. Each contract holds
-// whatever the stage is. Where a batch begins is told besides, for the end of its programming.
+// WriteE2 (manual 7.2), in two steps: it takes its address, and it latches held bytes up to the end of a block, which starts a programming. Each
+// contract holds whatever the stage is. Where a batch begins is told besides, for the end of its programming.
 ghost use Prim.Native.Nat.{_%_, min};
 ghost use mathlib.Core.Path.{_≡_};
 ghost use Rattle.machine.specs.State.{addressing, ready};

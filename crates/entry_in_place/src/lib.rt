@@ -1,4 +1,4 @@
-// The C interface (include/mfrc531.h): the six events on a chip that the caller lends, the profile check, and the choice for a safe start.
+// The C interface (include/mfrc531.h; manual 13.2): the six events on a chip that the caller lends, the profile check, and the choice for a safe start.
 //
 // An event lends the chip's arrays where they lie to the event on the arrays, and answers its number. Nothing is copied.
 ghost use mathlib.Core.Path.{_≡_};

@@ -1,4 +1,4 @@
-// Clocks: each is one of the timer and one of the programming.
+// Clocks (manual 9.7): each is one of the timer and one of the programming.
 ghost use Rattle.machine.specs.Events.{clock, clocks as Events·clocks, advanced as Events·advanced};
 ghost use Rattle.event_clock_advance.specs.Clock.{clockedIn, TurnsFormed};
 use crate::programming::command_clocked;

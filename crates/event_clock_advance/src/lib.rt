@@ -1,4 +1,4 @@
-// The clock advance on the arrays.
+// The clock advance on the arrays (manual 9.4).
 ghost use mathlib.Core.List.{[]};
 ghost use Rattle.machine.specs.Refusals.{advance as Refusals·advance};
 ghost use Rattle.state.specs.Lent.{assembled};

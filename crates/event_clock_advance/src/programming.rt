@@ -1,4 +1,4 @@
-// One clock of the programming that WriteE2 has started.
+// One clock of the programming that WriteE2 has started (manual 6.3).
 ghost use mathlib.Core.Bool.{true};
 ghost use mathlib.Core.Path.{_≡_};
 ghost use Rattle.state.specs.View.{at};

@@ -1,4 +1,4 @@
-// One clock of the timer.
+// One clock of the timer (manual 5.2).
 ghost use Rattle.state.specs.Lent.{clocksStateRegisters};
 ghost use Rattle.state.specs.Turns.{Turns};
 ghost use Rattle.event_clock_advance.specs.Clock.{stepsTimer, clocksTimer};
@@ -36,7 +36,7 @@ fn timer_stepped(clocks: &mut [u32; 2], state: &mut [u8; 24], registers: &[u8; 3
     requested(state, 0x20);
 }
 
-// One clock; 2^prescaler clocks make one step.
+// One clock; a step has 2^prescaler of them.
 pub fn timer_clocked(clocks: &mut [u32; 2], state: &mut [u8; 24], registers: &[u8; 32])
     ensures { λ r.
         let before = clocksStateRegisters (now (clocks .entry)) (now (state .entry)) (now (registers .entry)) in

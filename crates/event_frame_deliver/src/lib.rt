@@ -1,4 +1,4 @@
-// The delivery of a frame that the chip receives.
+// The delivery of a frame that the chip receives (manual 9.6).
 //
 // The timer is stopped where TimerControl (2Bh) says so, the frame is judged, the bytes that pass are offered to the FIFO, RxIRq is set, and the command ends.
 ghost use mathlib.Core.List.{[]};

@@ -1,4 +1,4 @@
-// The take of a frame that the chip sends: it goes to the front of a buffer that has room for the longest, 66 bytes.
+// The take of a frame that the chip sends (manual 9.5): it goes to the front of a buffer that has room for the longest, 66 bytes.
 ghost use Prim.Native.Nat.{_+_, _≤_};
 ghost use mathlib.Core.Path.{_≡_};
 ghost use mathlib.Core.Bool.{not, _&&_};

@@ -1,4 +1,4 @@
-// A host read on lent arrays: what an address reads, and the byte that a read of FIFOData removes.
+// A host read on lent arrays (manual 9.2): what an address reads, and the byte that a read of FIFOData removes.
 ghost use mathlib.Core.List.{[]};
 ghost use Rattle.machine.specs.Refusals.{hostRead};
 ghost use Rattle.state.specs.Lent.{clocksNumbersStateRegistersSlots};

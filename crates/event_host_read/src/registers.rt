@@ -1,4 +1,4 @@
-// What each register reads but FIFOData and PrimaryStatus, and which register an address is.
+// What each register (manual 2.2) reads but FIFOData and PrimaryStatus, and which register an address is.
 ghost use mathlib.Core.Path.{_≡_};
 ghost use Prim.Native.Nat.{_%_, _<_};
 ghost use Rattle.machine.specs.Registers.{registerRead};

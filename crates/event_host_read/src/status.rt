@@ -1,4 +1,4 @@
-// PrimaryStatus and SecondaryStatus: the flags that they show.
+// PrimaryStatus and SecondaryStatus (manual 2.3): the flags that they show.
 ghost use mathlib.Core.Path.{_≡_};
 ghost use mathlib.Core.Bool.{not};
 ghost use Prim.Native.Nat.{_<_};

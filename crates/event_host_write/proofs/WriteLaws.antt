@@ -58,7 +58,7 @@ module _ {c : Chip} {address register v : ℕ} (p : Passes c address register v)
   wrote-at : (k : ℕ) → register ≡ k → Turned (λ m. alerted m (settled (registerWritten k v m))) c next → Meets-write
   wrote-at k is turn = wrote (becomes _ turn (ap (λ (n : ℕ). alerted (view c) (settled (registerWritten n v (view c)))) (sym is)))
 
-  -- No command could take waiting bytes before the write.
+  -- No command has anything to do with held bytes before the write.
   nothing-pends : length (view c .held) ≤ waits (view c .command)
   nothing-pends = formed-good (view c) (machine-formed c (p .formed) (p .whole)) .1
 

@@ -1,4 +1,4 @@
-// A host write on lent arrays: what an address's register does with a byte, and what the active command then does with bytes that wait.
+// A host write on lent arrays (manual 9.3): what an address's register does with a byte, and what the active command then does with bytes that wait.
 //
 // A write of FIFOData and of Command has the command do what it can; no other write lets it do more than it could before. CalcCRC, by which a host sums
 // byte after byte, has ways of its own, in which no byte passes through the FIFO.

@@ -1,4 +1,4 @@
-// The start on the chip's arrays: from an EEPROM image, whatever the chip was.
+// The start on the chip's arrays (manual 9.1): from an EEPROM image, whatever the chip was.
 ghost use mathlib.Core.Path.{_≡_};
 ghost use mathlib.Core.List.{[]};
 ghost use lib.ListN.{length};

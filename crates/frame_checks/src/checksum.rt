@@ -1,4 +1,4 @@
-// The checksum of a frame received, and the bytes that pass: all but it.
+// The checksum of a frame received (manual 8.3), and the bytes that pass: all but it.
 ghost use mathlib.Core.Path.{_≡_};
 ghost use mathlib.Core.List.{List};
 ghost use Prim.Native.Nat.{ℕ, _≤_};

@@ -1,4 +1,4 @@
-// What is judged of a frame received, by the registers: its parity, its checksum, and how many of its bytes pass.
+// What is judged of a frame received (manual 8.2), by the registers: its parity, its checksum, and how many of its bytes pass.
 mod checksum;
 mod parity;
 

@@ -1,4 +1,4 @@
-// The parity of a frame received.
+// The parity of a frame received (manual 8.4).
 ghost use mathlib.Core.Path.{_≡_};
 ghost use mathlib.Core.Bool.{not, cond};
 ghost use Prim.Native.Nat.{_+_, _-_, _%_};

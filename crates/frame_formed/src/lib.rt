@@ -1,4 +1,4 @@
-// Whether a frame received is formed, which refusal 5 judges.
+// Whether a frame received is formed, which refusal 5 judges (manual 10.1).
 ghost use mathlib.Core.Path.{_≡_};
 ghost use Rattle.machine.specs.Refusals.{allBits, frameFormed};
 

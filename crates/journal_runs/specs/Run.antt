@@ -1,5 +1,5 @@
 -- Demand 3 over the program: a run is a list of calls of the six functions, by value or in place, with their answers and buffers, each getting the chip
--- that the one before left, each as its function's contract promises. The journal is fed the calls alone.
+-- that the one before left, each as its function's contract promises. Of each call the journal gets what the caller gave.
 -- Assumes nothing.
 use Prim.Native.Nat.{ℕ}
 use mathlib.Core.Bool.{true}
@@ -89,7 +89,7 @@ pub record Kept (image : List ℕ) (steps : List Step) (c : Chip) : Type 0 where
   pub as-defined : AsDefined (run image [] .machine) steps
   -- and each is accounted for by the entries of its own step
   pub accounted : AllAccounted (run image []) steps
-  -- the journal, fed the calls, has every clause of the demand of this chip
+  -- the journal of these calls has every clause of the demand of this chip
   pub conserved : Conserved image (record { machine = view c; journal = run image (callsOf steps) .journal })
   pub next-call : NextCall (record { machine = view c; journal = run image (callsOf steps) .journal })
 

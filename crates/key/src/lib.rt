@@ -1,4 +1,4 @@
-// The key unit: a six-byte key from its twelve stored bytes.
+// The key unit (manual 7.5): a six-byte key from its twelve stored bytes.
 ghost use mathlib.Core.Path.{_≡_};
 ghost use mathlib.Core.Bool.{_&&_};
 ghost use Rattle.key.specs.Key.{paired, formatHolds, judgedKey};

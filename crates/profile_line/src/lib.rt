@@ -1,4 +1,4 @@
-// The line that a person reads for a verdict, filled into a buffer.
+// The line that a person reads for a verdict (manual 11.3), filled into a buffer.
 ghost use mathlib.Core.Path.{_≡_};
 ghost use mathlib.Core.List.{[], _∷_};
 ghost use Prim.Native.Nat.{_+_, _<_, _≤_};

@@ -1,4 +1,4 @@
-// A chip's memory before its first start, for programs that make a chip: every number is 0. A start judges no old chip, so any would do.
+// A chip's memory before its first start, for programs that make a chip: every number is 0. A start does not look at it, so any would do.
 ghost use mathlib.Core.Path.{_≡_};
 ghost use Rattle.program_blank_chip.specs.Blank.{blankChip};
 use state::Chip;

@@ -1,4 +1,4 @@
-// Registers 10h-2Fh are loaded from the EEPROM, at a start and by LoadConfig.
+// Registers 10h-2Fh are loaded from the EEPROM, at a start and by LoadConfig (manual 9.1, 7.4).
 ghost use mathlib.Core.Path.{_≡_};
 ghost use Rattle.machine.specs.Memory.{overRegisters};
 ghost use Rattle.register_load.specs.Wrapped.{wrappedFrom};

@@ -1,4 +1,4 @@
-// Which register an address is.
+// Which register an address is (manual 2.1).
 ghost use mathlib.Core.Path.{_≡_};
 ghost use Rattle.machine.specs.Registers.{mapped as Registers·mapped};
 

@@ -86,7 +86,7 @@ fn started(clocks: &mut [u32; 2], state: &mut [u8; 24], registers: &[u8; 32], fl
     }
 }
 
-// Control is written: it flushes, then stops, then starts, as its bits 0, 2 and 1 say, and bits 5 and 4 are stored.
+// Control is written (manual 2.4): the FIFO is flushed, the timer stopped and then started, as bits 0, 2 and 1 say; bits 5 and 4 are stored.
 fn control_written(clocks: &mut [u32; 2], state: &mut [u8; 24], registers: &[u8; 32], v: u8)
     ensures { λ r.
         let before = clocksStateRegisters (now (clocks .entry)) (now (state .entry)) (now (registers .entry)) in

@@ -17,8 +17,8 @@ use Rattle.state.specs.Formed.{chipFormed}
 use Rattle.state.specs.Turns.{Sizes}
 use Rattle.state.specs.declared.Chip.{Chip}
 
--- The number that stands for an answer: bits 7-0 the refusal, 0 for none; bits 15-8 the byte read or the number of bytes written; bits 23-16 the
--- last bits. A call's own kind says which of these it has.
+-- The number that stands for an answer (manual 9.8): bits 7-0 the refusal, 0 for none; bits 15-8 the byte read or the number of bytes written; bits
+-- 23-16 the last bits. A call's own kind says which of these it has.
 abbrev pub coded : Answer → ℕ
 coded (refused n) = n
 coded done = 0

@@ -1,4 +1,4 @@
--- Which machine a chip's arrays are: the element that each field is, the FIFO's positions and slots, and the stage byte.
+-- Which machine a chip's arrays (manual 13.1) are: the element that each field is, the FIFO's positions and slots, and the stage byte.
 -- Assumes nothing.
 use Prim.Native.Nat.{ℕ, zero, suc, _+_, _-_, _%_}
 use mathlib.Core.Bool.{Bool, cond, not, _&&_, _||_}

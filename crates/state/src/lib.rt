@@ -1,4 +1,4 @@
-// The chip as a program keeps it: arrays of numbers, which every function is lent where they lie and changes in place.
+// The chip as a program keeps it (manual 13.1): arrays of numbers, which every function is lent where they lie and changes in place.
 //
 // Any memory is some chip, which refusal 7 judges. Names are the data sheet's. specs/View.antt says which machine the arrays are,
 // specs/Formed.antt when a chip is well formed, specs/Turns.antt what a function on some of the arrays promises.

@@ -1,4 +1,4 @@
-// The clauses of refusal 7, each as a test of the numbers that it speaks of.
+// The clauses of refusal 7 (manual 10.3), each as a test of the numbers that it speaks of.
 //
 // That an element is a byte is known where it is passed by value, so each clause is a function of bytes by value.
 // Tests are joined by `&` and `|`: to a proof these are the specification's own `&&` and `||`.

@@ -1,5 +1,5 @@
-// The FIFO in the state: bytes offered, taken and read, and the alerts. Its read and write positions are added with eight-bit wrap, and a byte's slot is its
-// position's remainder by 64.
+// The FIFO in the state (manual 3): bytes offered, taken and read, and the alerts. Its read and write positions are added with eight-bit wrap, and
+// a byte's slot is its position's remainder by 64.
 ghost use Prim.Native.Nat.{_-_, _%_, _≤_};
 ghost use mathlib.Core.Path.{_≡_};
 ghost use mathlib.Core.List.{[]};

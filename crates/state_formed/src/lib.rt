@@ -1,4 +1,4 @@
-// Whether a chip is well formed: refusal 7. Clocks, numbers and bytes of state decide it; the other arrays have their sizes by their types.
+// Whether a chip is well formed: refusal 7, manual 10.3. Clocks, numbers and bytes of state decide it; the other arrays have their sizes by their types.
 //
 // Every call of the chip judges it first. `quick` passes the states that a host meets most of the time, by a few tests; `formed` judges every clause.
 // A host access and a clock advance ask `quick` themselves, and `formed` where that does not pass: a function of both would be too long for the compiler

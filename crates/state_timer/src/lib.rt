@@ -1,4 +1,5 @@
-// The timer in the state: it is stopped, and it is started by the registers TimerClock (2Ah) and TimerReload (2Ch); the clocks of a step, and the restart.
+// The timer in the state (manual 5): it is stopped, and it is started by the registers TimerClock (2Ah) and TimerReload (2Ch); the clocks of a
+// step, and the restart.
 use state::PHASE;
 use state::PRESCALER;
 use state::RUNNING;
@@ -54,7 +55,7 @@ pub fn timer_started(clocks: &mut [u32; 2], state: &mut [u8; 24], registers: &[u
     }
 }
 
-// How many clocks make one timer step.
+// How many clocks a timer step has.
 pub fn period(prescaler: u8) -> u32
     ensures is { λ r. ⌜ r ≡ 2 ^ (prescaler % 32) ⌝ }
     ensures some { λ r. ⌜ 1 ≤ r ⌝ }

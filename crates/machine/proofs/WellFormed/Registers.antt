@@ -34,7 +34,7 @@ control-bits v m a =
     let (high, last) = each (eqb (m .status .control / 64) 0) _ more in
     both page (both (eq-eqb (control % 16) 0 (omega arith)) (both (eq-eqb (control / 64) 0 (omega arith)) last))
 
--- Control flushes, then stops, then starts.
+-- A write to Control.
 control-almost : (v : ℕ) (m : Machine) → Almost m → Almost (controlWritten v m)
 control-almost v m a =
     let flushes = cond (bitSet v 0) (flushed m) m in

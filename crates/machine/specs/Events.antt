@@ -80,7 +80,7 @@ clocks (suc n) m = clocks n (clock m)
 unfoldable pub advanced : ℕ → Machine → Machine
 advanced n m = alerted m (clocks n m)
 
--- A take (manual 9.5): nothing is held any more, and the buffer begins with the frame; what stood behind it there stays.
+-- A take (manual 8.1): nothing is held any more, and the buffer begins with the frame; what stood behind it there stays.
 unfoldable pub taken : Machine → Machine
 taken m = alerted m (sent m)
 
@@ -121,7 +121,7 @@ accepted m (advance n) = record { answer = done; next = advanced n m; buffer = [
 accepted m (takeFrame buffer) = record { answer = frame (length (frameSent m)) (txLastBits m); next = taken m; buffer = bufferTaken buffer m }
 accepted m (deliver bytes parities lastBits) = record { answer = done; next = delivered bytes parities lastBits m; buffer = [] }
 
--- Any call: by a refused one nothing changes, and its answer is the refusal's number (manual 10).
+-- Any call: by a refused one nothing changes, and its answer is the refusal's number (manual 10.1).
 unfoldable pub perform : Machine → Call → Outcome
 perform m c = cond (eqb (refusal m c) 0) (accepted m c) (record { answer = refused (refusal m c); next = m; buffer = bufferOf c })
 

@@ -48,7 +48,7 @@ loAlert m = leb (length (m .held)) (waterLevel m)
 unfoldable pub hiAlert : Machine → Bool
 hiAlert m = leb (64 - length (m .held)) (waterLevel m)
 
--- An alert that an event turns on is requested (manual 3.3): the machine after an event, from before and after it.
+-- An alert that an event turns on is requested (manual 4.1): the machine after an event, from before and after it.
 unfoldable pub alerted : Machine → Machine → Machine
 alerted before after =
     withRequests

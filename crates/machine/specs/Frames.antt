@@ -110,7 +110,7 @@ withFrameErrors crc parity m =
 abbrev pub rxStopped : Machine → Machine
 rxStopped m = cond (TStopRx m) (timerStopped m) m
 
--- A delivery (manual 9.6): the frame's bytes go to the FIFO, Rx is requested, and the command ends.
+-- A delivery (manual 8.2): the frame's bytes go to the FIFO, Rx is requested, and the command ends.
 unfoldable pub received : List ℕ → List ℕ → ℕ → Machine → Machine
 received bytes parities lastBits m =
     ended

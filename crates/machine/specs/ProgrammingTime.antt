@@ -1,5 +1,5 @@
--- The 78,648 clocks of a programming (manual 6.3), of every machine and at every address: all of them are left when a batch is latched, each clock takes
--- one, and nothing that the host writes takes or adds any. No example can say this.
+-- The 78,648 clocks of a programming (manual 6.3), of every machine and at every address: all of them are left when a batch is latched, each clock
+-- takes one, and nothing that the host writes takes or adds any. No example can say this.
 -- Assumes nothing.
 use Prim.Native.Nat.{ℕ, _-_, _<_, _≤_}
 use mathlib.Core.Bool.{false}

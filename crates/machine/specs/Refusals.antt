@@ -34,7 +34,7 @@ unfoldable pub allBits : List ℕ → Bool
 allBits [] = true
 allBits (p ∷ ps) = leb p 1 && allBits ps
 
--- What a delivery may bring; anything else is refused with 5: 1 to 64 bytes, as many parity values of 0 or 1, and at most 7 last bits.
+-- What a delivery may bring; anything else is refused with 5 (manual 9.6): 1 to 64 bytes, as many parity values of 0 or 1, and at most 7 last bits.
 abbrev pub frameFormed : List ℕ → List ℕ → ℕ → Bool
 frameFormed bytes parities lastBits =
     leb 1 (length bytes) && (leb (length bytes) 64 && (eqb (length parities) (length bytes) && (allBits parities && leb lastBits 7)))

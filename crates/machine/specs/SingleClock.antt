@@ -1,5 +1,5 @@
--- The single-clock rule (manual 9.7): advancing the machine by a number of clocks is the same as advancing it by so many single clocks, for every machine;
--- and so for the calls that ask for it, of every well-formed machine.
+-- The single-clock rule (manual 9.7): advancing the machine by a number of clocks is the same as advancing it by so many single clocks, for every
+-- machine; and so for the calls that ask for it, of every well-formed machine.
 -- Assumes nothing.
 use Prim.Native.Nat.{ℕ, zero, suc, _+_, _<_, _≤_}
 use mathlib.Core.Path.{_≡_}

@@ -1,4 +1,4 @@
-// The number of a profile check's verdict (manual 13.2), for hosts that have no types for it.
+// The number of a profile check's verdict (manual 9.8), for hosts that have no types for it.
 ghost use mathlib.Core.Path.{_≡_};
 ghost use Rattle.profile.specs.Answer.{refusalAnswer, answerOf};
 ghost use Rattle.profile_number.specs.Numbers.{profileNumber};

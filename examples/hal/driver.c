@@ -16,23 +16,23 @@ const char *driver_text(enum driver_result result)
 static void put_bytes(const uint8_t *bytes, size_t count)
 {
     for (size_t i = 0; i < count; i++)
-        WriteIO(HAL_REG_FIFO_DATA, bytes[i]);
+        WriteIO(MFRC531_REG_FIFO_DATA, bytes[i]);
 }
 
 /* No command, no byte in the FIFO, no request, and a timer that stands. */
 static void settle(void)
 {
-    WriteIO(HAL_REG_COMMAND, HAL_COMMAND_IDLE);
-    WriteIO(HAL_REG_CONTROL, HAL_CONTROL_TIMER_STOP_NOW | HAL_CONTROL_FLUSH_FIFO);
-    WriteIO(HAL_REG_INTERRUPT_EN, HAL_IRQ_ALL);
-    WriteIO(HAL_REG_INTERRUPT_RQ, HAL_IRQ_ALL);
+    WriteIO(MFRC531_REG_COMMAND, MFRC531_CMD_IDLE);
+    WriteIO(MFRC531_REG_CONTROL, MFRC531_T_STOP_NOW | MFRC531_FLUSH_FIFO);
+    WriteIO(MFRC531_REG_INTERRUPT_EN, HAL_IRQ_ALL);
+    WriteIO(MFRC531_REG_INTERRUPT_RQ, HAL_IRQ_ALL);
 }
 
 /* The chip has ended its command. */
 static bool idle(void)
 {
     for (unsigned polls = 0; polls < MOST_COMMAND_POLLS; polls++)
-        if (ReadIO(HAL_REG_COMMAND) == HAL_COMMAND_IDLE)
+        if (ReadIO(MFRC531_REG_COMMAND) == MFRC531_CMD_IDLE)
             return true;
     return false;
 }
@@ -40,10 +40,10 @@ static bool idle(void)
 /* As the data sheet has it for the bus: 80h to Page, Command until it is 00h, then 00h to Page for linear addresses. */
 enum driver_result driver_start(void)
 {
-    WriteIO(HAL_REG_PAGE, 0x80);
+    WriteIO(MFRC531_REG_PAGE, 0x80);
     if (!idle())
         return DRIVER_STUCK;
-    WriteIO(HAL_REG_PAGE, 0x00);
+    WriteIO(MFRC531_REG_PAGE, 0x00);
     settle();
     return DRIVER_OK;
 }
@@ -59,30 +59,30 @@ static void set_timer(uint32_t microseconds)
         prescaler++;
         steps = (clocks + (1u << prescaler) - 1) >> prescaler;
     }
-    WriteIO(HAL_REG_TIMER_CLOCK, prescaler);
-    WriteIO(HAL_REG_TIMER_RELOAD, (uint8_t)steps);
-    WriteIO(HAL_REG_TIMER_CONTROL, microseconds == 0 ? 0 : HAL_TIMER_START_TX_END | HAL_TIMER_STOP_RX_BEGIN);
+    WriteIO(MFRC531_REG_TIMER_CLOCK, prescaler);
+    WriteIO(MFRC531_REG_TIMER_RELOAD, (uint8_t)steps);
+    WriteIO(MFRC531_REG_TIMER_CONTROL, microseconds == 0 ? 0 : MFRC531_T_START_TX_END | MFRC531_T_STOP_RX_BEGIN);
 }
 
 /* Waits for a request out of three, and gives all that there are; none of the three at the bound. */
 static uint8_t wait_for_request(enum driver_wait wait)
 {
-    int active = wait == DRIVER_BY_PIN && ReadIO(HAL_REG_IRQ_PIN_CONFIG) & HAL_IRQ_PIN_INVERTED ? 0 : 1;
+    int active = wait == DRIVER_BY_PIN && ReadIO(MFRC531_REG_IRQ_PIN_CONFIG) & MFRC531_IRQ_INV ? 0 : 1;
     for (unsigned long polls = 0; polls < MOST_POLLS; polls++) {
         switch (wait) {
         case DRIVER_BY_INTERRUPT_RQ: {
-            uint8_t requests = ReadIO(HAL_REG_INTERRUPT_RQ);
-            if (requests & (HAL_IRQ_RX | HAL_IRQ_IDLE | HAL_IRQ_TIMER))
+            uint8_t requests = ReadIO(MFRC531_REG_INTERRUPT_RQ);
+            if (requests & (MFRC531_RX_IRQ | MFRC531_IDLE_IRQ | MFRC531_TIMER_IRQ))
                 return requests;
             break;
         }
         case DRIVER_BY_PRIMARY_STATUS:
-            if (ReadIO(HAL_REG_PRIMARY_STATUS) & HAL_PRIMARY_STATUS_IRQ)
-                return ReadIO(HAL_REG_INTERRUPT_RQ);
+            if (ReadIO(MFRC531_REG_PRIMARY_STATUS) & MFRC531_IRQ)
+                return ReadIO(MFRC531_REG_INTERRUPT_RQ);
             break;
         case DRIVER_BY_PIN:
             if (hal_irq_pin() == active)
-                return ReadIO(HAL_REG_INTERRUPT_RQ);
+                return ReadIO(MFRC531_REG_INTERRUPT_RQ);
             break;
         }
     }
@@ -91,11 +91,11 @@ static uint8_t wait_for_request(enum driver_wait wait)
 
 static enum driver_result judged(uint8_t error_flag)
 {
-    if (error_flag & HAL_ERROR_FIFO_OVERFLOW)
+    if (error_flag & MFRC531_FIFO_OVFL)
         return DRIVER_OVERFLOW;
-    if (error_flag & HAL_ERROR_PARITY)
+    if (error_flag & MFRC531_PARITY_ERR)
         return DRIVER_PARITY_ERROR;
-    if (error_flag & HAL_ERROR_CRC)
+    if (error_flag & MFRC531_CRC_ERR)
         return DRIVER_CRC_ERROR;
     return DRIVER_OK;
 }
@@ -103,13 +103,13 @@ static enum driver_result judged(uint8_t error_flag)
 /* Reads the answer before Command is written again, since that clears CRCErr and ParityErr. */
 static enum driver_result read_answer(struct driver_exchange *exchange)
 {
-    exchange->error_flag = ReadIO(HAL_REG_ERROR_FLAG);
-    exchange->answer_count = ReadIO(HAL_REG_FIFO_LENGTH);
-    exchange->answer_last_bits = ReadIO(HAL_REG_SECONDARY_STATUS) & HAL_SECONDARY_STATUS_RX_LAST_BITS;
+    exchange->error_flag = ReadIO(MFRC531_REG_ERROR_FLAG);
+    exchange->answer_count = ReadIO(MFRC531_REG_FIFO_LENGTH);
+    exchange->answer_last_bits = ReadIO(MFRC531_REG_SECONDARY_STATUS) & MFRC531_RX_LAST_BITS_MASK;
     if (exchange->answer_count > DRIVER_FRAME_BYTES) /* a FIFO of 64 bytes never says so */
         return DRIVER_OVERFLOW;
     for (size_t i = 0; i < exchange->answer_count; i++)
-        exchange->answer[i] = ReadIO(HAL_REG_FIFO_DATA);
+        exchange->answer[i] = ReadIO(MFRC531_REG_FIFO_DATA);
     return judged(exchange->error_flag);
 }
 
@@ -123,14 +123,14 @@ enum driver_result driver_transceive(struct driver_exchange *exchange)
         return DRIVER_ARGUMENT;
     settle();
     set_timer(exchange->timeout);
-    WriteIO(HAL_REG_INTERRUPT_EN, HAL_IRQ_SET | HAL_IRQ_RX | HAL_IRQ_IDLE | HAL_IRQ_TIMER);
-    WriteIO(HAL_REG_BIT_FRAMING, exchange->last_bits); /* every time: TxLastBits stay after a frame */
+    WriteIO(MFRC531_REG_INTERRUPT_EN, MFRC531_SET_IRQ | MFRC531_RX_IRQ | MFRC531_IDLE_IRQ | MFRC531_TIMER_IRQ);
+    WriteIO(MFRC531_REG_BIT_FRAMING, exchange->last_bits); /* every time: TxLastBits stay after a frame */
     put_bytes(exchange->bytes, exchange->count);
-    WriteIO(HAL_REG_COMMAND, HAL_COMMAND_TRANSCEIVE);
+    WriteIO(MFRC531_REG_COMMAND, MFRC531_CMD_TRANSCEIVE);
     uint8_t requests = wait_for_request(exchange->wait);
-    if (requests & HAL_IRQ_RX)
+    if (requests & MFRC531_RX_IRQ)
         result = read_answer(exchange);
-    else if (requests & HAL_IRQ_TIMER)
+    else if (requests & MFRC531_TIMER_IRQ)
         result = DRIVER_TIMEOUT;
     else
         result = DRIVER_STUCK;
@@ -152,16 +152,16 @@ enum driver_result driver_write_e2(uint16_t address, const uint8_t *bytes, size_
     settle();
     put_bytes(argument, sizeof argument);
     put_bytes(bytes, count);
-    WriteIO(HAL_REG_COMMAND, HAL_COMMAND_WRITE_E2);
+    WriteIO(MFRC531_REG_COMMAND, MFRC531_CMD_WRITE_E2);
     for (unsigned polls = 0; !ready && polls < E2_POLLS * programmings; polls++) {
-        ready = (ReadIO(HAL_REG_SECONDARY_STATUS) & HAL_SECONDARY_STATUS_E2_READY) != 0;
+        ready = (ReadIO(MFRC531_REG_SECONDARY_STATUS) & MFRC531_E2_READY) != 0;
         if (!ready)
             hal_delay(E2_DELAY);
     }
-    uint8_t error_flag = ReadIO(HAL_REG_ERROR_FLAG); /* before Command is written, which clears AccessErr */
-    uint8_t left = ReadIO(HAL_REG_FIFO_LENGTH);
+    uint8_t error_flag = ReadIO(MFRC531_REG_ERROR_FLAG); /* before Command is written, which clears AccessErr */
+    uint8_t left = ReadIO(MFRC531_REG_FIFO_LENGTH);
     settle(); /* Idle: WriteE2 does not end by itself */
-    if (error_flag & HAL_ERROR_ACCESS)
+    if (error_flag & MFRC531_ACCESS_ERR)
         return DRIVER_ACCESS_ERROR;
     return ready && left == 0 ? DRIVER_OK : DRIVER_STUCK;
 }
@@ -173,14 +173,14 @@ enum driver_result driver_read_e2(uint16_t address, uint8_t *bytes, size_t count
     const uint8_t arguments[3] = {(uint8_t)(address & 0xFF), (uint8_t)(address >> 8), (uint8_t)count};
     settle();
     put_bytes(arguments, sizeof arguments);
-    WriteIO(HAL_REG_COMMAND, HAL_COMMAND_READ_E2);
+    WriteIO(MFRC531_REG_COMMAND, MFRC531_CMD_READ_E2);
     bool ended = idle();
     enum driver_result result = DRIVER_STUCK;
-    if (ended && ReadIO(HAL_REG_ERROR_FLAG) & HAL_ERROR_ACCESS) {
+    if (ended && ReadIO(MFRC531_REG_ERROR_FLAG) & MFRC531_ACCESS_ERR) {
         result = DRIVER_ACCESS_ERROR;
-    } else if (ended && ReadIO(HAL_REG_FIFO_LENGTH) == count) {
+    } else if (ended && ReadIO(MFRC531_REG_FIFO_LENGTH) == count) {
         for (size_t i = 0; i < count; i++)
-            bytes[i] = ReadIO(HAL_REG_FIFO_DATA);
+            bytes[i] = ReadIO(MFRC531_REG_FIFO_DATA);
         result = DRIVER_OK;
     }
     settle();

@@ -1,7 +1,6 @@
 /* Edges of the hardware layer and of the driver, one case a run: edges NAME; without a name the names of all cases. tests/hal runs each. */
 #include "driver.h"
 #include "hal.h"
-#include "image.h"
 
 #include <inttypes.h>
 #include <stdio.h>
@@ -69,7 +68,7 @@ static void answers(const uint8_t *bytes, size_t count)
 static void begin(void)
 {
     hal_prepare(&hal);
-    hal_start(&hal, shipped_image, sizeof shipped_image);
+    hal_start(&hal, mfrc531_shipped_image(), MFRC531_EEPROM_SIZE);
     hal.card = scripted_card;
     hal.card_context = &script;
     CHECK(driver_start() == DRIVER_OK);
@@ -103,7 +102,7 @@ static void note_timer(void *context, const struct hal *from, enum hal_event eve
 static void right_answer(void)
 {
     begin();
-    WriteIO(HAL_REG_CHANNEL_REDUNDANCY, 0x0F); /* odd parity, a CRC added and checked */
+    WriteIO(MFRC531_REG_CHANNEL_REDUNDANCY, 0x0F); /* odd parity, a CRC added and checked */
     answers(two_bytes, 2);
     hal_append_crc_a(&script.answer);
     CHECK(script.answer.bytes[2] == 0x26 && script.answer.bytes[3] == 0xCF); /* ISO/IEC 14443-3 */
@@ -111,8 +110,8 @@ static void right_answer(void)
     CHECK(exchange.answer_count == 2 && memcmp(exchange.answer, two_bytes, 2) == 0 && exchange.answer_last_bits == 0);
     CHECK(script.frames == 1 && script.latest.count == 4 && script.latest.last_bits == 0);
     hal.trace = note_timer;
-    WriteIO(HAL_REG_FIFO_DATA, 0x30);
-    WriteIO(HAL_REG_COMMAND, HAL_COMMAND_TRANSCEIVE);
+    WriteIO(MFRC531_REG_FIFO_DATA, 0x30);
+    WriteIO(MFRC531_REG_COMMAND, MFRC531_CMD_TRANSCEIVE);
     hal_delay(0);
     CHECK(ran); /* from the end of sending */
     hal_delay(100);
@@ -136,7 +135,7 @@ static void every_parity(void)
     begin();
     for (unsigned setting = 0; setting < 4; setting++)
         for (unsigned byte = 0; byte < 256; byte++) {
-            WriteIO(HAL_REG_CHANNEL_REDUNDANCY, (uint8_t)setting);
+            WriteIO(MFRC531_REG_CHANNEL_REDUNDANCY, (uint8_t)setting);
             answers((const uint8_t[]){(uint8_t)byte}, 1);
             CHECK(exchanged(5000) == DRIVER_OK);
             script.answer.inverted_parities = 1;
@@ -147,7 +146,7 @@ static void every_parity(void)
 static void wrong_crc(void)
 {
     begin();
-    WriteIO(HAL_REG_CHANNEL_REDUNDANCY, 0x0F);
+    WriteIO(MFRC531_REG_CHANNEL_REDUNDANCY, 0x0F);
     answers(two_bytes, 2);
     hal_append_crc_a(&script.answer);
     script.answer.bytes[3] ^= 0x01;
@@ -176,7 +175,7 @@ static void longest_frames(void)
     answers(long_frame, 64);
     CHECK(exchanged(5000) == DRIVER_OK);
     CHECK(exchange.answer_count == 64 && memcmp(exchange.answer, long_frame, 64) == 0);
-    WriteIO(HAL_REG_CHANNEL_REDUNDANCY, 0x0F);
+    WriteIO(MFRC531_REG_CHANNEL_REDUNDANCY, 0x0F);
     answers(long_frame, 62);
     hal_append_crc_a(&script.answer);
     exchange.bytes = long_frame;
@@ -271,16 +270,16 @@ static void answer_at_once(void)
 /* Which reads are polls, by address; a refused read is none. */
 static void polls(void)
 {
-    static const uint8_t polled[] = {HAL_REG_COMMAND,      HAL_REG_PRIMARY_STATUS, HAL_REG_FIFO_LENGTH, HAL_REG_SECONDARY_STATUS,
-                                     HAL_REG_INTERRUPT_RQ, HAL_REG_ERROR_FLAG,     HAL_REG_COLL_POS,    HAL_REG_TIMER_VALUE};
+    static const uint8_t polled[] = {MFRC531_REG_COMMAND,      MFRC531_REG_PRIMARY_STATUS, MFRC531_REG_FIFO_LENGTH, MFRC531_REG_SECONDARY_STATUS,
+                                     MFRC531_REG_INTERRUPT_RQ, MFRC531_REG_ERROR_FLAG,     MFRC531_REG_COLL_POS,    MFRC531_REG_TIMER_VALUE};
     begin();
     hal.refused = note_refusal;
     for (unsigned address = 0; address < 256; address++) {
         unsigned before = script.frames;
-        WriteIO(HAL_REG_CONTROL, HAL_CONTROL_FLUSH_FIFO);
-        WriteIO(HAL_REG_FIFO_DATA, 0x30);
-        WriteIO(HAL_REG_FIFO_DATA, 0x04);
-        WriteIO(HAL_REG_COMMAND, HAL_COMMAND_TRANSMIT);
+        WriteIO(MFRC531_REG_CONTROL, MFRC531_FLUSH_FIFO);
+        WriteIO(MFRC531_REG_FIFO_DATA, 0x30);
+        WriteIO(MFRC531_REG_FIFO_DATA, 0x04);
+        WriteIO(MFRC531_REG_COMMAND, MFRC531_CMD_TRANSMIT);
         if (address > 63)
             WriteIO(0x00, 0x80); /* page 0, where these addresses would be polls */
         ReadIO((uint8_t)address);
@@ -297,7 +296,7 @@ static void by_pages(void)
     answers(two_bytes, 2);
     WriteIO(0x00, 0x80);
     WriteIO(0x02, 0x30);
-    WriteIO(0x01, HAL_COMMAND_TRANSCEIVE);
+    WriteIO(0x01, MFRC531_CMD_TRANSCEIVE);
     WriteIO(0x00, 0x85); /* 28h-2Fh */
     CHECK(ReadIO(0x03) == 0x06); /* TimerControl, no poll though PrimaryStatus has this address on page 0 */
     CHECK(ReadIO(0x05) == 0x02);
@@ -316,19 +315,19 @@ static void command_first(void)
 {
     begin();
     answers(two_bytes, 2);
-    WriteIO(HAL_REG_COMMAND, HAL_COMMAND_TRANSCEIVE);
-    CHECK(ReadIO(HAL_REG_FIFO_LENGTH) == 0); /* a poll, but nothing to send */
-    WriteIO(HAL_REG_FIFO_DATA, 0x30);
-    WriteIO(HAL_REG_CHANNEL_REDUNDANCY, ReadIO(HAL_REG_CHANNEL_REDUNDANCY) | 0x04);
-    WriteIO(HAL_REG_BIT_FRAMING, ReadIO(HAL_REG_BIT_FRAMING));
-    WriteIO(HAL_REG_CONTROL, ReadIO(HAL_REG_CONTROL));
-    WriteIO(HAL_REG_INTERRUPT_EN, ReadIO(HAL_REG_INTERRUPT_EN));
-    WriteIO(HAL_REG_FIFO_DATA, 0x04);
+    WriteIO(MFRC531_REG_COMMAND, MFRC531_CMD_TRANSCEIVE);
+    CHECK(ReadIO(MFRC531_REG_FIFO_LENGTH) == 0); /* a poll, but nothing to send */
+    WriteIO(MFRC531_REG_FIFO_DATA, 0x30);
+    WriteIO(MFRC531_REG_CHANNEL_REDUNDANCY, ReadIO(MFRC531_REG_CHANNEL_REDUNDANCY) | 0x04);
+    WriteIO(MFRC531_REG_BIT_FRAMING, ReadIO(MFRC531_REG_BIT_FRAMING));
+    WriteIO(MFRC531_REG_CONTROL, ReadIO(MFRC531_REG_CONTROL));
+    WriteIO(MFRC531_REG_INTERRUPT_EN, ReadIO(MFRC531_REG_INTERRUPT_EN));
+    WriteIO(MFRC531_REG_FIFO_DATA, 0x04);
     CHECK(script.frames == 0);
-    CHECK(ReadIO(HAL_REG_INTERRUPT_RQ) & HAL_IRQ_TX);
+    CHECK(ReadIO(MFRC531_REG_INTERRUPT_RQ) & MFRC531_TX_IRQ);
     CHECK(script.frames == 1 && script.latest.count == 4);
     hal_delay(100);
-    CHECK(ReadIO(HAL_REG_FIFO_LENGTH) == 2);
+    CHECK(ReadIO(MFRC531_REG_FIFO_LENGTH) == 2);
 }
 
 /* Transmit, and then Receive. */
@@ -336,29 +335,29 @@ static void two_commands(void)
 {
     begin();
     answers(two_bytes, 2);
-    WriteIO(HAL_REG_FIFO_DATA, 0x30);
-    WriteIO(HAL_REG_COMMAND, HAL_COMMAND_TRANSMIT);
-    CHECK(ReadIO(HAL_REG_COMMAND) == HAL_COMMAND_IDLE);
+    WriteIO(MFRC531_REG_FIFO_DATA, 0x30);
+    WriteIO(MFRC531_REG_COMMAND, MFRC531_CMD_TRANSMIT);
+    CHECK(ReadIO(MFRC531_REG_COMMAND) == MFRC531_CMD_IDLE);
     CHECK(script.frames == 1);
-    WriteIO(HAL_REG_COMMAND, HAL_COMMAND_RECEIVE);
+    WriteIO(MFRC531_REG_COMMAND, MFRC531_CMD_RECEIVE);
     hal_delay(100);
-    CHECK(ReadIO(HAL_REG_INTERRUPT_RQ) & HAL_IRQ_RX);
-    CHECK(ReadIO(HAL_REG_FIFO_LENGTH) == 2);
-    WriteIO(HAL_REG_COMMAND, HAL_COMMAND_TRANSMIT); /* the two bytes go out again, and nobody receives */
+    CHECK(ReadIO(MFRC531_REG_INTERRUPT_RQ) & MFRC531_RX_IRQ);
+    CHECK(ReadIO(MFRC531_REG_FIFO_LENGTH) == 2);
+    WriteIO(MFRC531_REG_COMMAND, MFRC531_CMD_TRANSMIT); /* the two bytes go out again, and nobody receives */
     hal_delay(0);
     CHECK(script.frames == 2 && hal.answers_missed == 0);
     hal_delay(100);
-    CHECK(hal.answers_missed == 1 && ReadIO(HAL_REG_FIFO_LENGTH) == 0);
+    CHECK(hal.answers_missed == 1 && ReadIO(MFRC531_REG_FIFO_LENGTH) == 0);
 }
 
 /* A Command written before any poll ends the sending. */
 static void taken_back(void)
 {
     begin();
-    WriteIO(HAL_REG_FIFO_DATA, 0x30);
-    WriteIO(HAL_REG_COMMAND, HAL_COMMAND_TRANSCEIVE);
-    WriteIO(HAL_REG_COMMAND, HAL_COMMAND_IDLE);
-    CHECK(ReadIO(HAL_REG_FIFO_LENGTH) == 1 && script.frames == 0);
+    WriteIO(MFRC531_REG_FIFO_DATA, 0x30);
+    WriteIO(MFRC531_REG_COMMAND, MFRC531_CMD_TRANSCEIVE);
+    WriteIO(MFRC531_REG_COMMAND, MFRC531_CMD_IDLE);
+    CHECK(ReadIO(MFRC531_REG_FIFO_LENGTH) == 1 && script.frames == 0);
 }
 
 /* Both polarities, on every page, with and without a request that is enabled. */
@@ -368,14 +367,14 @@ static void pin(void)
     for (unsigned inverted = 0; inverted < 2; inverted++)
         for (unsigned page = 0; page < 8; page++) {
             WriteIO(0x00, 0x00);
-            WriteIO(HAL_REG_IRQ_PIN_CONFIG, inverted ? HAL_IRQ_PIN_INVERTED : 0);
-            WriteIO(HAL_REG_INTERRUPT_EN, HAL_IRQ_ALL);
-            WriteIO(HAL_REG_INTERRUPT_RQ, HAL_IRQ_SET | HAL_IRQ_IDLE);
+            WriteIO(MFRC531_REG_IRQ_PIN_CONFIG, inverted ? MFRC531_IRQ_INV : 0);
+            WriteIO(MFRC531_REG_INTERRUPT_EN, HAL_IRQ_ALL);
+            WriteIO(MFRC531_REG_INTERRUPT_RQ, MFRC531_SET_IRQ | MFRC531_IDLE_IRQ);
             WriteIO(0x00, (uint8_t)(0x80 | page));
             CHECK(hal_irq_pin() == (int)inverted); /* not enabled */
             WriteIO(0x00, 0x00);
-            WriteIO(HAL_REG_INTERRUPT_EN, HAL_IRQ_SET | HAL_IRQ_IDLE);
-            CHECK(ReadIO(HAL_REG_PRIMARY_STATUS) & HAL_PRIMARY_STATUS_IRQ);
+            WriteIO(MFRC531_REG_INTERRUPT_EN, MFRC531_SET_IRQ | MFRC531_IDLE_IRQ);
+            CHECK(ReadIO(MFRC531_REG_PRIMARY_STATUS) & MFRC531_IRQ);
             WriteIO(0x00, (uint8_t)(0x80 | page));
             CHECK(hal_irq_pin() == (int)!inverted);
         }
@@ -405,18 +404,18 @@ static void delays(void)
     hal_delay(0);
     CHECK(hal.clocks == before);
     hal.access_clocks = 0;
-    WriteIO(HAL_REG_TIMER_CLOCK, 2);
-    WriteIO(HAL_REG_TIMER_RELOAD, 250);
-    WriteIO(HAL_REG_CONTROL, 0x02); /* TStartNow: 1,000 clocks */
+    WriteIO(MFRC531_REG_TIMER_CLOCK, 2);
+    WriteIO(MFRC531_REG_TIMER_RELOAD, 250);
+    WriteIO(MFRC531_REG_CONTROL, 0x02); /* TStartNow: 1,000 clocks */
     for (unsigned i = 0; i < 73; i++)
         hal_delay(1); /* 989.88 */
-    CHECK(ReadIO(HAL_REG_TIMER_VALUE) == 250 - 989 / 4);
-    CHECK(!(ReadIO(HAL_REG_INTERRUPT_RQ) & HAL_IRQ_TIMER));
+    CHECK(ReadIO(MFRC531_REG_TIMER_VALUE) == 250 - 989 / 4);
+    CHECK(!(ReadIO(MFRC531_REG_INTERRUPT_RQ) & MFRC531_TIMER_IRQ));
     hal_delay(1); /* 1,003.44 */
-    CHECK(ReadIO(HAL_REG_INTERRUPT_RQ) & HAL_IRQ_TIMER);
+    CHECK(ReadIO(MFRC531_REG_INTERRUPT_RQ) & MFRC531_TIMER_IRQ);
     before = hal.clocks;
     hal.access_clocks = 100000; /* more than one advance takes */
-    ReadIO(HAL_REG_COMMAND);
+    ReadIO(MFRC531_REG_COMMAND);
     CHECK(hal.clocks - before == 100000);
 }
 
@@ -455,7 +454,7 @@ static void two_chips(void)
     static struct hal other;
     begin();
     hal_prepare(&other);
-    hal_start(&other, shipped_image, sizeof shipped_image);
+    hal_start(&other, mfrc531_shipped_image(), MFRC531_EEPROM_SIZE);
     CHECK(driver_start() == DRIVER_OK);
     answers(two_bytes, 2);
     CHECK(exchanged(5000) == DRIVER_TIMEOUT); /* no card there */
@@ -474,7 +473,7 @@ static void refusals_by_hook(void)
     CHECK(met.count == 1 && met.refusal == MFRC531_ADDRESS_ABOVE_63 && met.argument == 64 && strcmp(met.call, "ReadIO") == 0);
     WriteIO(255, 0x00);
     CHECK(met.count == 2 && met.refusal == MFRC531_ADDRESS_ABOVE_63 && met.argument == 255 && strcmp(met.call, "WriteIO") == 0);
-    hal_start(&hal, shipped_image, 511);
+    hal_start(&hal, mfrc531_shipped_image(), 511);
     CHECK(met.count == 3 && met.refusal == MFRC531_IMAGE_NOT_512_BYTES && strcmp(met.call, "start") == 0);
     answers(two_bytes, 2);
     script.answer.count = 65;
@@ -484,7 +483,7 @@ static void refusals_by_hook(void)
     script.answer.last_bits = 8;
     CHECK(exchanged(5000) == DRIVER_TIMEOUT);
     CHECK(met.count == 5 && met.refusal == MFRC531_FRAME_MALFORMED && met.argument == 2);
-    answers(shipped_image, 63);
+    answers(mfrc531_shipped_image(), 63);
     hal_append_crc_a(&script.answer); /* no room for it */
     CHECK(exchanged(5000) == DRIVER_TIMEOUT);
     CHECK(met.count == 6 && met.refusal == MFRC531_FRAME_MALFORMED && met.argument == 65);
@@ -511,7 +510,7 @@ static void abort_by_answer(void)
     exchanged(5000);
 }
 
-static void abort_without_chip(void) { ReadIO(HAL_REG_COMMAND); }
+static void abort_without_chip(void) { ReadIO(MFRC531_REG_COMMAND); }
 
 static const struct {
     const char *name;

@@ -5,27 +5,9 @@
 #include <stdlib.h>
 #include <string.h>
 
-/* An advance of more is refused. */
-enum { MOST_CLOCKS = 65535 };
-
 static _Thread_local struct hal *in_use;
 
 /* ---- Refusals ------------------------------------------------------------------------------------------------------------------------ */
-
-const char *hal_refusal_text(uint8_t refusal)
-{
-    switch (refusal) {
-    case MFRC531_NOT_REFUSED: return "not refused";
-    case MFRC531_ADDRESS_ABOVE_63: return "the address is above 63";
-    case MFRC531_IMAGE_NOT_512_BYTES: return "the EEPROM image is not 512 bytes";
-    case MFRC531_OVER_65535_CLOCKS: return "more than 65,535 clocks";
-    case MFRC531_NOT_SENDING_OR_RECEIVING: return "the chip does not send or receive";
-    case MFRC531_FRAME_MALFORMED: return "a frame of no or over 64 bytes, or more than 7 last bits";
-    case MFRC531_BUFFER_UNDER_66_BYTES: return "the buffer is under 66 bytes";
-    case MFRC531_CHIP_MALFORMED: return "the memory is no chip's state";
-    default: return "a refusal without a text here";
-    }
-}
 
 static void refuse(const struct hal *hal, const char *call, uint32_t argument, uint8_t refusal)
 {
@@ -33,7 +15,7 @@ static void refuse(const struct hal *hal, const char *call, uint32_t argument, u
         hal->refused(hal->hook_context, call, argument, refusal);
         return;
     }
-    fprintf(stderr, "hal: %s, argument %lu: refused with %u, %s\n", call, (unsigned long)argument, refusal, hal_refusal_text(refusal));
+    fprintf(stderr, "hal: %s, argument %lu: refused with %u, %s\n", call, (unsigned long)argument, refusal, mfrc531_refusal_text(refusal));
     abort();
 }
 
@@ -84,14 +66,14 @@ static bool polls(const mfrc531_chip *chip, uint8_t address)
     if (address > 63)
         return false;
     switch (chip->page & 0x80 ? 8 * (chip->page & 0x07) + address % 8 : address) {
-    case HAL_REG_COMMAND:
-    case HAL_REG_PRIMARY_STATUS:
-    case HAL_REG_FIFO_LENGTH:
-    case HAL_REG_SECONDARY_STATUS:
-    case HAL_REG_INTERRUPT_RQ:
-    case HAL_REG_ERROR_FLAG:
-    case HAL_REG_COLL_POS:
-    case HAL_REG_TIMER_VALUE: return true;
+    case MFRC531_REG_COMMAND:
+    case MFRC531_REG_PRIMARY_STATUS:
+    case MFRC531_REG_FIFO_LENGTH:
+    case MFRC531_REG_SECONDARY_STATUS:
+    case MFRC531_REG_INTERRUPT_RQ:
+    case MFRC531_REG_ERROR_FLAG:
+    case MFRC531_REG_COLL_POS:
+    case MFRC531_REG_TIMER_VALUE: return true;
     default: return false;
     }
 }
@@ -117,19 +99,19 @@ static uint8_t fitting_parity(uint8_t byte, uint8_t channel_redundancy)
     uint8_t ones = 0;
     for (; byte != 0; byte >>= 1)
         ones ^= byte & 1;
-    return channel_redundancy & HAL_PARITY_ODD ? ones ^ 1 : ones;
+    return channel_redundancy & MFRC531_PARITY_ODD ? ones ^ 1 : ones;
 }
 
 static void deliver_answer(struct hal *hal)
 {
     const struct hal_answer *answer = &hal->answer;
-    uint8_t parities[HAL_ANSWER_BYTES];
+    uint8_t parities[MFRC531_FIFO_SIZE];
     if (!receives(&hal->chip)) {
         miss_answer(hal);
         return;
     }
     hal->answering = false;
-    uint8_t channel_redundancy = looked_at(hal, HAL_REG_CHANNEL_REDUNDANCY);
+    uint8_t channel_redundancy = looked_at(hal, MFRC531_REG_CHANNEL_REDUNDANCY);
     for (size_t i = 0; i < answer->count; i++)
         parities[i] = fitting_parity(answer->bytes[i], channel_redundancy) ^ (uint8_t)(answer->inverted_parities >> i & 1);
     if (accepted(hal, "deliver", (uint32_t)answer->count,
@@ -144,7 +126,7 @@ static void ask_card(struct hal *hal, const struct hal_frame *frame)
     hal->card(hal->card_context, frame, &hal->answer);
     if (hal->answer.count == 0)
         return;
-    if (hal->answer.count > HAL_ANSWER_BYTES) { /* the library would refuse it; but there are no such bytes to lend */
+    if (hal->answer.count > MFRC531_FIFO_SIZE) { /* the library would refuse it; but there are no such bytes to lend */
         refuse(hal, "deliver", (uint32_t)hal->answer.count, MFRC531_FRAME_MALFORMED);
         return;
     }
@@ -175,7 +157,7 @@ static void send_frame(struct hal *hal)
 void hal_append_crc_a(struct hal_answer *answer)
 {
     uint16_t crc = 0x6363;
-    if (answer->count <= HAL_ANSWER_BYTES - 2) {
+    if (answer->count <= MFRC531_FIFO_SIZE - 2) {
         for (size_t i = 0; i < answer->count; i++) {
             crc ^= answer->bytes[i];
             for (int bit = 0; bit < 8; bit++)
@@ -193,7 +175,7 @@ void hal_append_crc_a(struct hal_answer *answer)
 static void pass(struct hal *hal, uint64_t clocks)
 {
     while (clocks > 0) {
-        uint32_t part = clocks < MOST_CLOCKS ? (uint32_t)clocks : MOST_CLOCKS;
+        uint32_t part = clocks < MFRC531_MOST_CLOCKS ? (uint32_t)clocks : MFRC531_MOST_CLOCKS;
         if (hal->answering && hal->answer_left < part)
             part = hal->answer_left;
         if (!accepted(hal, "advance", part, mfrc531_advance(&hal->chip, part)))
@@ -232,8 +214,8 @@ int hal_irq_pin(void)
     struct hal *hal = current();
     send_frame(hal);
     pass(hal, hal->access_clocks);
-    bool request = (looked_at(hal, HAL_REG_PRIMARY_STATUS) & HAL_PRIMARY_STATUS_IRQ) != 0;
-    bool inverted = (looked_at(hal, HAL_REG_IRQ_PIN_CONFIG) & HAL_IRQ_PIN_INVERTED) != 0;
+    bool request = (looked_at(hal, MFRC531_REG_PRIMARY_STATUS) & MFRC531_IRQ) != 0;
+    bool inverted = (looked_at(hal, MFRC531_REG_IRQ_PIN_CONFIG) & MFRC531_IRQ_INV) != 0;
     return request != inverted;
 }
 

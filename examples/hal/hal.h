@@ -52,9 +52,6 @@ void hal_delay(uint32_t microseconds);
 /* ---- For the program around it: a chip, a card, hooks -------------------------------------------------------------------------------- */
 
 enum {
-    HAL_SENT_BYTES = 66,   /* the longest frame sent: 64 bytes and a CRC */
-    HAL_ANSWER_BYTES = 64, /* the longest frame received */
-
     /* A bus access. By the data sheet (table 158) a strobe is low for 65 ns and then high for 150 ns at least: 3 clocks is the shortest. The
      * bus is rarely the limit: an 8051 at 12 MHz takes 24 of its clocks for one MOVX, 2 microseconds or 27 clocks of 13.56 MHz. */
     HAL_ACCESS_CLOCKS = 27,
@@ -65,14 +62,14 @@ enum {
 
 /* A frame that the chip has sent, with its CRC if one was added. Of the last byte, last_bits bits count (0: all). */
 struct hal_frame {
-    uint8_t bytes[HAL_SENT_BYTES];
+    uint8_t bytes[MFRC531_TAKE_BUFFER_SIZE];
     size_t count;
     uint8_t last_bits;
 };
 
 /* What a card answers. The layer hands it over as no answer, with HAL_ANSWER_CLOCKS; a card fills in the rest. */
 struct hal_answer {
-    uint8_t bytes[HAL_ANSWER_BYTES]; /* with the CRC, if the card sends one */
+    uint8_t bytes[MFRC531_FIFO_SIZE]; /* with the CRC, if the card sends one */
     size_t count;                    /* 0: no answer */
     uint8_t last_bits;               /* of the last byte so many bits count (0: all) */
     uint32_t clocks;                 /* from the end of the chip's frame until the chip has the whole answer */
@@ -91,9 +88,6 @@ struct hal;
 
 /* A refused call: its name and its argument (an address, a count or clocks), and the number of the refusal. */
 typedef void (*hal_refused)(void *context, const char *call, uint32_t argument, uint8_t refusal);
-
-/* The reason in words. */
-const char *hal_refusal_text(uint8_t refusal);
 
 /* What happens in the field, for a log: hal->clocks says when. */
 enum hal_event { HAL_FRAME_SENT, HAL_ANSWER_RECEIVED, HAL_ANSWER_MISSED };
@@ -131,59 +125,8 @@ void hal_reset(struct hal *hal);
 /* Which one ReadIO, WriteIO, hal_irq_pin and hal_delay speak to, in this thread. */
 void hal_use(struct hal *hal);
 
-/* ---- Registers and bits, by the data sheet's names ----------------------------------------------------------------------------------- */
-
-enum {
-    HAL_REG_PAGE = 0x00,
-    HAL_REG_COMMAND = 0x01,
-    HAL_REG_FIFO_DATA = 0x02,
-    HAL_REG_PRIMARY_STATUS = 0x03,
-    HAL_REG_FIFO_LENGTH = 0x04,
-    HAL_REG_SECONDARY_STATUS = 0x05,
-    HAL_REG_INTERRUPT_EN = 0x06,
-    HAL_REG_INTERRUPT_RQ = 0x07,
-    HAL_REG_CONTROL = 0x09,
-    HAL_REG_ERROR_FLAG = 0x0A,
-    HAL_REG_COLL_POS = 0x0B,
-    HAL_REG_TIMER_VALUE = 0x0C,
-    HAL_REG_BIT_FRAMING = 0x0F,
-    HAL_REG_CHANNEL_REDUNDANCY = 0x22,
-    HAL_REG_TIMER_CLOCK = 0x2A,
-    HAL_REG_TIMER_CONTROL = 0x2B,
-    HAL_REG_TIMER_RELOAD = 0x2C,
-    HAL_REG_IRQ_PIN_CONFIG = 0x2D
-};
-
-enum {
-    HAL_COMMAND_IDLE = 0x00,
-    HAL_COMMAND_WRITE_E2 = 0x01,
-    HAL_COMMAND_READ_E2 = 0x03,
-    HAL_COMMAND_RECEIVE = 0x16,
-    HAL_COMMAND_TRANSMIT = 0x1A,
-    HAL_COMMAND_TRANSCEIVE = 0x1E
-};
-
-enum {
-    HAL_IRQ_SET = 0x80, /* InterruptEn and InterruptRq: a write sets the marked bits, else clears them */
-    HAL_IRQ_TIMER = 0x20,
-    HAL_IRQ_TX = 0x10,
-    HAL_IRQ_RX = 0x08,
-    HAL_IRQ_IDLE = 0x04,
-    HAL_IRQ_ALL = 0x3F,
-    HAL_PRIMARY_STATUS_IRQ = 0x08,
-    HAL_SECONDARY_STATUS_E2_READY = 0x40,
-    HAL_SECONDARY_STATUS_RX_LAST_BITS = 0x07,
-    HAL_CONTROL_TIMER_STOP_NOW = 0x04,
-    HAL_CONTROL_FLUSH_FIFO = 0x01,
-    HAL_ERROR_ACCESS = 0x20,
-    HAL_ERROR_FIFO_OVERFLOW = 0x10,
-    HAL_ERROR_CRC = 0x08,
-    HAL_ERROR_PARITY = 0x02,
-    HAL_TIMER_STOP_RX_BEGIN = 0x04,
-    HAL_TIMER_START_TX_END = 0x02,
-    HAL_IRQ_PIN_INVERTED = 0x02,
-    HAL_PARITY_ODD = 0x02 /* ChannelRedundancy */
-};
+/* All six requests of InterruptRq. */
+enum { HAL_IRQ_ALL = 0x3F };
 
 #ifdef __cplusplus
 }

@@ -5,7 +5,6 @@
  */
 #include "driver.h"
 #include "hal.h"
-#include "image.h"
 
 #include <inttypes.h>
 #include <stdio.h>
@@ -91,7 +90,7 @@ int main(void)
 {
     hal_prepare(&hal);
     hal.trace = show_event;
-    hal_start(&hal, shipped_image, sizeof shipped_image);
+    hal_start(&hal, mfrc531_shipped_image(), MFRC531_EEPROM_SIZE);
     printf("clocks of 13.56 MHz, %" PRIu32 " for each access\n", hal.access_clocks);
     show_result("start", driver_start());
     request("A card answers; the driver polls InterruptRq", answering_card, DRIVER_BY_INTERRUPT_RQ);

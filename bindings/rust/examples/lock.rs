@@ -1,9 +1,6 @@
 //! A first firmware in Rust, step by step what examples/lock.c does: start, interrupts, key, checksum, a Transceive, and refused calls.
+use mfrc531::bits::interrupt_en;
 use mfrc531::{check_profile, shipped_image, Chip, Command, Refusal, Register, SHIPPED_PROFILE};
-
-const RX_IRQ: u8 = 0x08;
-const TX_IRQ: u8 = 0x10;
-const IDLE_IRQ: u8 = 0x04;
 
 fn send_bytes(chip: &mut Chip, bytes: &[u8]) -> Result<(), Refusal> {
     bytes.iter().try_for_each(|&byte| chip.write(Register::FifoData, byte))
@@ -53,7 +50,7 @@ fn main() -> Result<(), Box<dyn std::error::Error>> {
     show(&mut chip, "started from the shipped image")?;
 
     chip.write(Register::InterruptEn, 0x7F)?; // clear all enables
-    chip.write(Register::InterruptEn, 0x80 | RX_IRQ | TX_IRQ | IDLE_IRQ)?;
+    chip.write(Register::InterruptEn, interrupt_en::SET | interrupt_en::RX | interrupt_en::TX | interrupt_en::IDLE)?;
     chip.write(Register::InterruptRq, 0x7F)?; // clear all requests
     show(&mut chip, "Rx, Tx and Idle enabled")?;
 

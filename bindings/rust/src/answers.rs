@@ -1,32 +1,46 @@
 //! What calls answer: a value, or a refusal.
-use std::fmt;
+use core::fmt;
 
 /// Why a call was refused. A refused call changes neither the chip nor a buffer.
+///
+/// Later requests may add refusals, so a `match` needs a last arm for others.
 #[derive(Clone, Copy, Debug, PartialEq, Eq, Hash)]
-#[repr(u8)]
+#[non_exhaustive]
 pub enum Refusal {
     /// 1: the host address is above 63.
-    AddressAbove63 = 1,
+    AddressAbove63,
     /// 2: the image is not 512 bytes.
-    ImageNot512Bytes = 2,
+    ImageNot512Bytes,
     /// 3: more than 65,535 clocks were asked.
-    Over65535Clocks = 3,
+    Over65535Clocks,
     /// 4: a take while the chip does not send or holds no byte, or a delivery while it does not receive.
-    NotSendingOrReceiving = 4,
+    NotSendingOrReceiving,
     /// 5: a received frame of 0 or over 64 bytes, another number of parity values, a parity value above 1, or last bits above 7.
-    FrameMalformed = 5,
+    FrameMalformed,
     /// 6: the buffer is under 66 bytes.
-    BufferUnder66Bytes = 6,
+    BufferUnder66Bytes,
     /// 7: the memory is no chip's state.
-    ChipMalformed = 7,
+    ChipMalformed,
     /// 8: neither profile passes.
-    BothProfilesFail = 8,
+    BothProfilesFail,
+    /// A number that this crate has no name for: the library is newer than the crate.
+    Other(u8),
 }
 
 impl Refusal {
     /// The refusal's number.
     pub fn number(self) -> u8 {
-        self as u8
+        match self {
+            Refusal::AddressAbove63 => 1,
+            Refusal::ImageNot512Bytes => 2,
+            Refusal::Over65535Clocks => 3,
+            Refusal::NotSendingOrReceiving => 4,
+            Refusal::FrameMalformed => 5,
+            Refusal::BufferUnder66Bytes => 6,
+            Refusal::ChipMalformed => 7,
+            Refusal::BothProfilesFail => 8,
+            Refusal::Other(number) => number,
+        }
     }
 
     pub(crate) fn of(number: u8) -> Refusal {
@@ -39,7 +53,7 @@ impl Refusal {
             6 => Refusal::BufferUnder66Bytes,
             7 => Refusal::ChipMalformed,
             8 => Refusal::BothProfilesFail,
-            other => unreachable!("the library has no refusal {other} here"),
+            other => Refusal::Other(other),
         }
     }
 }
@@ -55,12 +69,13 @@ impl fmt::Display for Refusal {
             Refusal::BufferUnder66Bytes => "the buffer is under 66 bytes",
             Refusal::ChipMalformed => "the memory is no chip's state",
             Refusal::BothProfilesFail => "neither profile passes",
+            Refusal::Other(_) => "a refusal that this crate does not know",
         };
         write!(f, "refused ({}): {why}", self.number())
     }
 }
 
-impl std::error::Error for Refusal {}
+impl core::error::Error for Refusal {}
 
 /// The frame that a take wrote into the buffer.
 #[derive(Clone, Copy, Debug, PartialEq, Eq)]
@@ -90,5 +105,29 @@ impl Answer {
     pub fn frame(self) -> Result<Frame, Refusal> {
         let last_bits = (self.0 >> 16) as u8;
         self.value().map(|length| Frame { length: length.into(), last_bits })
+    }
+}
+
+#[cfg(test)]
+mod tests {
+    use super::*;
+    use std::string::ToString;
+
+    #[test]
+    fn every_number_is_a_value() {
+        for number in 1..=255 {
+            let refusal = Answer(number).done().unwrap_err();
+            assert_eq!(u32::from(refusal.number()), number);
+            assert_eq!(refusal == Refusal::Other(refusal.number()), number > 8);
+        }
+        assert_eq!(Refusal::of(200).to_string(), "refused (200): a refusal that this crate does not know");
+        assert_eq!(Refusal::of(3).to_string(), "refused (3): more than 65,535 clocks were asked");
+    }
+
+    #[test]
+    fn an_answer_has_its_parts() {
+        assert_eq!(Answer(0x00_07_42_00).frame(), Ok(Frame { length: 0x42, last_bits: 7 }));
+        assert_eq!(Answer(0x00_00_42_00).value(), Ok(0x42));
+        assert_eq!(Answer(0x00_00_00_04).value(), Err(Refusal::NotSendingOrReceiving));
     }
 }

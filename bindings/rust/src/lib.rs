@@ -19,16 +19,25 @@
 //! # Ok(())
 //! # }
 //! ```
+//!
+//! The crate uses no standard library. How it finds the library is written in `build.rs`: in the folder of MFRC531_LIB_DIR, by pkg-config, or in
+//! `build/` of the repository.
+#![no_std]
 #![warn(missing_docs)]
+
+#[cfg(test)]
+extern crate std;
 
 mod answers;
 mod names;
 mod profiles;
+mod shown;
 
+pub mod bits;
 pub mod memory;
 
 pub use answers::{Frame, Refusal};
-pub use names::{Command, Register};
+pub use names::{Command, Register, UnknownCommand, UnknownRegister};
 pub use profiles::{check_profile, choose, shipped_image, Choice, ProfileRefusal, SHIPPED_PROFILE};
 
 use answers::Answer;
@@ -51,7 +60,20 @@ extern "C" {
 }
 
 /// An MFRC531.
-#[derive(Clone)]
+///
+/// Two chips are equal where all 676 bytes of their states are; chips that act alike may differ in where their FIFO begins.
+///
+/// ```
+/// # use mfrc531::*;
+/// let chip = Chip::start(&shipped_image())?;
+/// let mut other = chip.clone();
+/// assert_eq!(chip, other);
+/// other.write(Register::Page, 0x00)?;
+/// assert_ne!(chip, other);
+/// assert!(format!("{other:?}").starts_with("Chip { Page: 00, Command: Idle, FIFO: [], "));
+/// # Ok::<(), Refusal>(())
+/// ```
+#[derive(Clone, PartialEq, Eq)]
 pub struct Chip {
     memory: ChipMemory,
 }
@@ -132,10 +154,8 @@ impl Chip {
     /// Delivers a frame that the chip receives: its bytes, a parity value (0 or 1) for each, and how many bits of the last byte count (0: all).
     pub fn deliver(&mut self, bytes: &[u8], parities: &[u8], last_bits: u8) -> Result<(), Refusal> {
         // Safety: the chip and the slices are lent for the call alone, and each has the length that is passed with it.
-        Answer(unsafe {
-            mfrc531_deliver(&mut self.memory, bytes.as_ptr(), bytes.len(), parities.as_ptr(), parities.len(), last_bits)
-        })
-        .done()
+        Answer(unsafe { mfrc531_deliver(&mut self.memory, bytes.as_ptr(), bytes.len(), parities.as_ptr(), parities.len(), last_bits) })
+            .done()
     }
 
     /// The chip's state as it lies in memory.

@@ -1,5 +1,5 @@
 //! A chip's state as it lies in memory: the library's own layout, which the compiler checks against the header's numbers.
-use std::mem::{align_of, offset_of, size_of};
+use core::mem::{align_of, offset_of, size_of};
 
 /// What [`ChipMemory::stage`] is: the active command's code in bits 5-0, and how far it is. Bit 6 is set where WriteE2 has its address or the
 /// chip sends, bit 7 where it receives. A stage that is not listed is malformed.
@@ -87,7 +87,7 @@ pub struct ChipMemory {
 
 impl ChipMemory {
     /// All zeros.
-    pub fn zeroed() -> ChipMemory {
+    pub const fn zeroed() -> ChipMemory {
         ChipMemory {
             timer_phase: 0,
             programming_left: 0,
@@ -118,6 +118,17 @@ impl ChipMemory {
             key: [0; 6],
             eeprom: [0; 512],
         }
+    }
+
+    /// How many bytes the FIFO holds: at most 64 where this is a chip's state.
+    pub const fn held(&self) -> u8 {
+        self.fifo_write.wrapping_sub(self.fifo_read)
+    }
+
+    /// The bytes that the FIFO holds, the next one to be read first; none where this is no chip's state.
+    pub fn held_bytes(&self) -> impl Iterator<Item = u8> + Clone + '_ {
+        let held = if self.held() <= 64 { self.held() } else { 0 };
+        (0..held).map(|place| self.slots[usize::from(self.fifo_read.wrapping_add(place) % 64)])
     }
 }
 

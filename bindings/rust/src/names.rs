@@ -1,69 +1,166 @@
 //! The data sheet's names for registers and commands.
+use core::fmt;
 
-/// A host register, by its address. While UsePageSelect (Page bit 7) is set, as after a start, the chip takes the page from PageSelect and only
-/// the address's three low bits from here; write 0 to [`Register::Page`] for linear addresses.
-#[allow(missing_docs)]
-#[derive(Clone, Copy, Debug, PartialEq, Eq, Hash)]
-#[repr(u8)]
-pub enum Register {
-    Page = 0x00,
-    Command = 0x01,
-    FifoData = 0x02,
-    PrimaryStatus = 0x03,
-    FifoLength = 0x04,
-    SecondaryStatus = 0x05,
-    InterruptEn = 0x06,
-    InterruptRq = 0x07,
-    Control = 0x09,
-    ErrorFlag = 0x0A,
-    CollPos = 0x0B,
-    TimerValue = 0x0C,
-    CrcResultLsb = 0x0D,
-    CrcResultMsb = 0x0E,
-    BitFraming = 0x0F,
-    TxControl = 0x11,
-    CwConductance = 0x12,
-    ModConductance = 0x13,
-    CoderControl = 0x14,
-    ModWidth = 0x15,
-    ModWidthSof = 0x16,
-    TypeBFraming = 0x17,
-    RxControl1 = 0x19,
-    DecoderControl = 0x1A,
-    BitPhase = 0x1B,
-    RxThreshold = 0x1C,
-    BpskDemControl = 0x1D,
-    RxControl2 = 0x1E,
-    ClockQControl = 0x1F,
-    RxWait = 0x21,
-    ChannelRedundancy = 0x22,
-    CrcPresetLsb = 0x23,
-    CrcPresetMsb = 0x24,
-    PreSet25 = 0x25,
-    MfoutSelect = 0x26,
-    PreSet27 = 0x27,
-    FifoLevel = 0x29,
-    TimerClock = 0x2A,
-    TimerControl = 0x2B,
-    TimerReload = 0x2C,
-    IrqPinConfig = 0x2D,
-    PreSet2E = 0x2E,
-    PreSet2F = 0x2F,
+/// An enum of bytes with the data sheet's name for each.
+macro_rules! named_bytes {
+    (
+        $(#[$documented:meta])*
+        $type:ident, $unknown:ident, $what:literal;
+        $($variant:ident = $byte:literal, $name:literal;)*
+    ) => {
+        $(#[$documented])*
+        #[allow(missing_docs)]
+        #[derive(Clone, Copy, Debug, PartialEq, Eq, Hash)]
+        #[repr(u8)]
+        pub enum $type {
+            $($variant = $byte,)*
+        }
+
+        impl $type {
+            /// All of them, in order.
+            pub const ALL: &'static [$type] = &[$($type::$variant),*];
+
+            /// The data sheet's name.
+            pub const fn name(self) -> &'static str {
+                match self {
+                    $($type::$variant => $name,)*
+                }
+            }
+        }
+
+        impl fmt::Display for $type {
+            fn fmt(&self, f: &mut fmt::Formatter<'_>) -> fmt::Result {
+                f.pad(self.name())
+            }
+        }
+
+        impl From<$type> for u8 {
+            fn from(named: $type) -> u8 {
+                named as u8
+            }
+        }
+
+        impl TryFrom<u8> for $type {
+            type Error = $unknown;
+
+            fn try_from(byte: u8) -> Result<$type, $unknown> {
+                match byte {
+                    $($byte => Ok($type::$variant),)*
+                    other => Err($unknown(other)),
+                }
+            }
+        }
+
+        #[doc = concat!("A byte that is ", $what, ".")]
+        #[derive(Clone, Copy, Debug, PartialEq, Eq, Hash)]
+        pub struct $unknown(pub u8);
+
+        impl fmt::Display for $unknown {
+            fn fmt(&self, f: &mut fmt::Formatter<'_>) -> fmt::Result {
+                write!(f, "{:02X}h is {}", self.0, $what)
+            }
+        }
+
+        impl core::error::Error for $unknown {}
+    };
 }
 
-/// A command's code, for [`Register::Command`].
-#[allow(missing_docs)]
-#[derive(Clone, Copy, Debug, PartialEq, Eq, Hash)]
-#[repr(u8)]
-pub enum Command {
-    Idle = 0x00,
-    WriteE2 = 0x01,
-    ReadE2 = 0x03,
-    LoadConfig = 0x07,
-    LoadKeyE2 = 0x0B,
-    CalcCrc = 0x12,
-    Receive = 0x16,
-    LoadKey = 0x19,
-    Transmit = 0x1A,
-    Transceive = 0x1E,
+named_bytes! {
+    /// A host register, by its address. While UsePageSelect (Page bit 7) is set, as after a start, the chip takes the page from PageSelect and
+    /// only the address's three low bits from here; write 0 to [`Register::Page`] for linear addresses.
+    ///
+    /// Page is seen at 08h, 10h .. 38h too; here it has the address 00h alone. The data sheet calls 16h PreSet16.
+    ///
+    /// ```
+    /// use mfrc531::Register;
+    /// assert_eq!(Register::try_from(0x2A), Ok(Register::TimerClock));
+    /// assert_eq!(Register::try_from(0x3F).unwrap_err().to_string(), "3Fh is no register's address");
+    /// assert_eq!(Register::FifoLevel.to_string(), "FIFOLevel");
+    /// ```
+    Register, UnknownRegister, "no register's address";
+    Page = 0x00, "Page";
+    Command = 0x01, "Command";
+    FifoData = 0x02, "FIFOData";
+    PrimaryStatus = 0x03, "PrimaryStatus";
+    FifoLength = 0x04, "FIFOLength";
+    SecondaryStatus = 0x05, "SecondaryStatus";
+    InterruptEn = 0x06, "InterruptEn";
+    InterruptRq = 0x07, "InterruptRq";
+    Control = 0x09, "Control";
+    ErrorFlag = 0x0A, "ErrorFlag";
+    CollPos = 0x0B, "CollPos";
+    TimerValue = 0x0C, "TimerValue";
+    CrcResultLsb = 0x0D, "CRCResultLSB";
+    CrcResultMsb = 0x0E, "CRCResultMSB";
+    BitFraming = 0x0F, "BitFraming";
+    TxControl = 0x11, "TxControl";
+    CwConductance = 0x12, "CwConductance";
+    ModConductance = 0x13, "ModConductance";
+    CoderControl = 0x14, "CoderControl";
+    ModWidth = 0x15, "ModWidth";
+    ModWidthSof = 0x16, "PreSet16";
+    TypeBFraming = 0x17, "TypeBFraming";
+    RxControl1 = 0x19, "RxControl1";
+    DecoderControl = 0x1A, "DecoderControl";
+    BitPhase = 0x1B, "BitPhase";
+    RxThreshold = 0x1C, "RxThreshold";
+    BpskDemControl = 0x1D, "BPSKDemControl";
+    RxControl2 = 0x1E, "RxControl2";
+    ClockQControl = 0x1F, "ClockQControl";
+    RxWait = 0x21, "RxWait";
+    ChannelRedundancy = 0x22, "ChannelRedundancy";
+    CrcPresetLsb = 0x23, "CRCPresetLSB";
+    CrcPresetMsb = 0x24, "CRCPresetMSB";
+    PreSet25 = 0x25, "PreSet25";
+    MfoutSelect = 0x26, "MFOUTSelect";
+    PreSet27 = 0x27, "PreSet27";
+    FifoLevel = 0x29, "FIFOLevel";
+    TimerClock = 0x2A, "TimerClock";
+    TimerControl = 0x2B, "TimerControl";
+    TimerReload = 0x2C, "TimerReload";
+    IrqPinConfig = 0x2D, "IRQPinConfig";
+    PreSet2E = 0x2E, "PreSet2E";
+    PreSet2F = 0x2F, "PreSet2F";
+}
+
+named_bytes! {
+    /// A command's code, for [`Register::Command`].
+    ///
+    /// ```
+    /// use mfrc531::Command;
+    /// assert_eq!(Command::try_from(0x12), Ok(Command::CalcCrc));
+    /// assert_eq!(Command::try_from(0x02).unwrap_err().to_string(), "02h is no command's code");
+    /// ```
+    Command, UnknownCommand, "no command's code";
+    Idle = 0x00, "Idle";
+    WriteE2 = 0x01, "WriteE2";
+    ReadE2 = 0x03, "ReadE2";
+    LoadConfig = 0x07, "LoadConfig";
+    LoadKeyE2 = 0x0B, "LoadKeyE2";
+    CalcCrc = 0x12, "CalcCRC";
+    Receive = 0x16, "Receive";
+    LoadKey = 0x19, "LoadKey";
+    Transmit = 0x1A, "Transmit";
+    Transceive = 0x1E, "Transceive";
+}
+
+#[cfg(test)]
+mod tests {
+    use super::*;
+
+    #[test]
+    fn a_byte_is_its_register_or_none() {
+        let found = (0..=255).filter_map(|byte| Register::try_from(byte).ok());
+        assert!(found.eq(Register::ALL.iter().copied()));
+        assert!(Register::ALL.iter().all(|&register| Register::try_from(u8::from(register)) == Ok(register)));
+        // Every address of 00h-2Fh but those where Page is seen again.
+        assert_eq!(Register::ALL.len(), 0x30 - 5);
+    }
+
+    #[test]
+    fn a_byte_is_its_command_or_none() {
+        let found = (0..=255).filter_map(|byte| Command::try_from(byte).ok());
+        assert!(found.eq(Command::ALL.iter().copied()));
+        assert_eq!(Command::ALL.len(), 10);
+    }
 }

@@ -1,6 +1,6 @@
 //! Start-up profiles: the check, and the choice for a safe start.
 use crate::answers::Refusal;
-use std::fmt;
+use core::fmt;
 
 extern "C" {
     fn mfrc531_check_profile(profile: *const u8, length: usize) -> u32;
@@ -20,8 +20,11 @@ pub fn shipped_image() -> [u8; 512] {
     image
 }
 
-/// Why a profile is refused.
+/// Why a profile is refused. It prints itself as the program `profile_check` does.
+///
+/// Later requests may add refusals, so a `match` needs a last arm for others.
 #[derive(Clone, Copy, Debug, PartialEq, Eq, Hash)]
+#[non_exhaustive]
 pub enum ProfileRefusal {
     /// 9: the profile is not 32 bytes.
     Not32Bytes,
@@ -47,6 +50,13 @@ pub enum ProfileRefusal {
         /// where WaterLevel is: 29h
         register: u8,
     },
+    /// A number that this crate has no name for: the library is newer than the crate.
+    Other {
+        /// the number
+        number: u8,
+        /// the register that the answer names, 0 where it names none
+        register: u8,
+    },
 }
 
 impl ProfileRefusal {
@@ -58,6 +68,7 @@ impl ProfileRefusal {
             ProfileRefusal::PrescalerAbove21 { .. } => 11,
             ProfileRefusal::ReloadZeroWithStart { .. } => 12,
             ProfileRefusal::WaterLevelAbove31 { .. } => 13,
+            ProfileRefusal::Other { number, .. } => number,
         }
     }
 }
@@ -70,11 +81,13 @@ impl fmt::Display for ProfileRefusal {
             ProfileRefusal::PrescalerAbove21 { register } => write!(f, "refuse 11 at {register:02X}"),
             ProfileRefusal::ReloadZeroWithStart { register } => write!(f, "refuse 12 at {register:02X}"),
             ProfileRefusal::WaterLevelAbove31 { register } => write!(f, "refuse 13 at {register:02X}"),
+            ProfileRefusal::Other { number, register: 0 } => write!(f, "refuse {number}"),
+            ProfileRefusal::Other { number, register } => write!(f, "refuse {number} at {register:02X}"),
         }
     }
 }
 
-impl std::error::Error for ProfileRefusal {}
+impl core::error::Error for ProfileRefusal {}
 
 /// Checks a start-up profile, 32 bytes for registers 10h-2Fh.
 ///
@@ -90,7 +103,11 @@ impl std::error::Error for ProfileRefusal {}
 /// ```
 pub fn check_profile(profile: &[u8]) -> Result<(), ProfileRefusal> {
     // Safety: the profile is lent for the call alone, and has the length that is passed with it.
-    let answer = unsafe { mfrc531_check_profile(profile.as_ptr(), profile.len()) };
+    verdict(unsafe { mfrc531_check_profile(profile.as_ptr(), profile.len()) })
+}
+
+/// The check's answer: bits 7-0 the refusal, 0 for none; bits 15-8 the register that it names; bits 23-16 the bit.
+fn verdict(answer: u32) -> Result<(), ProfileRefusal> {
     let register = (answer >> 8) as u8;
     match answer as u8 {
         0 => Ok(()),
@@ -99,7 +116,7 @@ pub fn check_profile(profile: &[u8]) -> Result<(), ProfileRefusal> {
         11 => Err(ProfileRefusal::PrescalerAbove21 { register }),
         12 => Err(ProfileRefusal::ReloadZeroWithStart { register }),
         13 => Err(ProfileRefusal::WaterLevelAbove31 { register }),
-        other => unreachable!("the library has no refusal {other} here"),
+        number => Err(ProfileRefusal::Other { number, register }),
     }
 }
 
@@ -129,5 +146,25 @@ pub fn choose(user: &[u8], rescue: &[u8]) -> Result<Choice, Refusal> {
         (0, 1) => Ok(Choice::User),
         (0, _) => Ok(Choice::Rescue),
         (number, _) => Err(Refusal::of(number)),
+    }
+}
+
+#[cfg(test)]
+mod tests {
+    use super::*;
+    use std::string::ToString;
+
+    #[test]
+    fn every_answer_is_a_value() {
+        assert_eq!(verdict(0), Ok(()));
+        for number in 1..=255 {
+            let refusal = verdict(0x00_06_22_00 | number).unwrap_err();
+            assert_eq!(u32::from(refusal.number()), number);
+            assert_eq!(matches!(refusal, ProfileRefusal::Other { .. }), !(9..=13).contains(&number));
+        }
+        let line = |answer| verdict(answer).unwrap_err().to_string();
+        assert_eq!(line(0x00_06_22_0A), "refuse 10 at 22 bit 6");
+        assert_eq!(line(0x00_00_2B_0E), "refuse 14 at 2B");
+        assert_eq!(line(0x00_00_00_63), "refuse 99");
     }
 }

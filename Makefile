@@ -59,13 +59,19 @@ run: $(BUILD)/lock $(BUILD)/profile_check
 	@echo 'The profile check:'
 	@tools/check_profiles $(BUILD)/profile_check profiles/*.hex
 
+# The command-line tool, Rust on the library.
+$(BUILD)/mfrc531: $(BUILD)/libmfrc531.a FORCE
+	@cd tools/mfrc531 && CARGO_TARGET_DIR=$(BUILD)/cargo cargo build --offline --release --quiet
+	@cmp -s $(BUILD)/cargo/release/mfrc531 $@ || cp $(BUILD)/cargo/release/mfrc531 $@
+
 # All that the tests link, proved side by side before any of it is built.
 proved:
 	@mkdir -p $(BUILD)
 	@rt check $(INTERFACE) profile_check crc_exports journal_runs > $(BUILD)/proved.log 2>&1 || { cat $(BUILD)/proved.log; exit 1; }
 
-test: proved $(BUILD)/lock $(BUILD)/profile_check $(BUILD)/libcrc_exports.a
+test: proved $(BUILD)/lock $(BUILD)/profile_check $(BUILD)/mfrc531 $(BUILD)/libcrc_exports.a
 	tests/profile_check $(BUILD)/profile_check
+	tests/tool $(BUILD)
 	tests/firmware $(BUILD)
 	tests/differential/run $(CALLS)
 	tests/impostors

@@ -1,0 +1,112 @@
+//! A waveform of a chip over clocks, as a value change dump (IEEE 1364) that GTKWave shows.
+use mfrc531::Chip;
+use std::fs::File;
+use std::io::{self, BufWriter, Write};
+use std::path::Path;
+
+/// What the waveform shows of a chip.
+#[derive(Clone, Copy, PartialEq, Eq)]
+struct Seen {
+    values: [u8; SIGNALS.len()],
+}
+
+/// Name, number of bits, and identifier in the file.
+const SIGNALS: [(&str, usize, char); 6] =
+    [("IRq", 1, 'i'), ("E2Ready", 1, 'e'), ("TRunning", 1, 't'), ("held", 7, 'h'), ("timer_value", 8, 'v'), ("command", 6, 'c')];
+
+impl Seen {
+    fn of(chip: &Chip) -> Seen {
+        let memory = chip.memory();
+        Seen {
+            values: [
+                u8::from(memory.interrupt_en & memory.interrupt_rq & 0x3F != 0),
+                u8::from(memory.programming_left == 0),
+                u8::from(memory.timer_running != 0),
+                memory.held(),
+                memory.timer_value,
+                memory.stage & 0x3F,
+            ],
+        }
+    }
+}
+
+pub struct Waveform {
+    file: BufWriter<File>,
+    /// The latest time written, and what the chip was then.
+    time: u128,
+    seen: Option<Seen>,
+}
+
+/// When a clock begins: 13.56 MHz is 339 clocks in 25 microseconds. Each time is rounded by itself, so no error adds up.
+fn picoseconds(clock: u64) -> u128 {
+    (u128::from(clock) * 25_000_000 + 169) / 339
+}
+
+impl Waveform {
+    pub fn create(name: &Path) -> io::Result<Waveform> {
+        let mut file = BufWriter::new(File::create(name)?);
+        writeln!(file, "$version mfrc531 {} $end", env!("CARGO_PKG_VERSION"))?;
+        writeln!(file, "$comment")?;
+        writeln!(
+            file,
+            "  The clock is 13.56 MHz, 73.746.. ns, which no time scale divides: clock n stands at n * 25000000 / 339 ps, rounded."
+        )?;
+        writeln!(file, "  Calls at one clock stand 1 ps apart, in their order. held: bytes in the FIFO. command: the code in Command.")?;
+        writeln!(file, "$end")?;
+        writeln!(file, "$timescale 1 ps $end")?;
+        writeln!(file, "$scope module mfrc531 $end")?;
+        for (name, bits, identifier) in SIGNALS {
+            let range = if bits == 1 { String::new() } else { format!(" [{}:0]", bits - 1) };
+            writeln!(file, "$var wire {bits} {identifier} {name}{range} $end")?;
+        }
+        writeln!(file, "$upscope $end")?;
+        writeln!(file, "$enddefinitions $end")?;
+        Ok(Waveform { file, time: 0, seen: None })
+    }
+
+    /// Writes what has changed at a clock.
+    pub fn sample(&mut self, clock: u64, chip: &Chip) -> io::Result<()> {
+        let seen = Seen::of(chip);
+        let Some(before) = self.seen.replace(seen) else {
+            self.time = picoseconds(clock);
+            writeln!(self.file, "#{}\n$dumpvars", self.time)?;
+            self.values(&seen, None)?;
+            return writeln!(self.file, "$end");
+        };
+        if before == seen {
+            return Ok(());
+        }
+        // A call comes after those before it, and still within its clock.
+        let time = picoseconds(clock).max((self.time + 1).min(picoseconds(clock + 1) - 1));
+        if time > self.time {
+            self.time = time;
+            writeln!(self.file, "#{time}")?;
+        }
+        self.values(&seen, Some(&before))
+    }
+
+    fn values(&mut self, seen: &Seen, before: Option<&Seen>) -> io::Result<()> {
+        for (place, (_, bits, identifier)) in SIGNALS.iter().enumerate() {
+            let value = seen.values[place];
+            if before.is_some_and(|before| before.values[place] == value) {
+                continue;
+            }
+            match bits {
+                1 => writeln!(self.file, "{value}{identifier}")?,
+                _ => writeln!(self.file, "b{value:b} {identifier}")?,
+            }
+        }
+        Ok(())
+    }
+
+    pub fn flush(&mut self) -> io::Result<()> {
+        self.file.flush()
+    }
+
+    /// The last time of the file, so that the last values are seen to last.
+    pub fn finish(&mut self, clock: u64) -> io::Result<()> {
+        let time = picoseconds(clock).max(self.time + 1);
+        writeln!(self.file, "#{time}")?;
+        self.file.flush()
+    }
+}

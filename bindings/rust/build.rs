@@ -37,10 +37,7 @@ fn folder() -> Result<PathBuf, String> {
             format!("{VARIABLE} is {}, where no {ARCHIVE} lies: set it to the folder that has it, or run `make library`.", named.display())
         });
     }
-    let beside = own.join("../../build");
-    // Should the library come there later, this script runs again.
-    println!("cargo::rerun-if-changed={}", beside.join(ARCHIVE).display());
-    from_pkg_config().into_iter().chain([beside]).find_map(having).ok_or_else(|| {
+    from_pkg_config().into_iter().chain([own.join("../../build")]).find_map(having).ok_or_else(|| {
         format!("{ARCHIVE} is not found: run `make library` in the bench's repository, or set {VARIABLE} to the folder that has it.")
     })
 }

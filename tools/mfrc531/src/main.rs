@@ -33,15 +33,17 @@ profile   For each file ('-' is standard input) a line, the one that profile_che
 
           A file is raw bytes, or text in hexadecimal digits: with 0x or h, commas or semicolons; the dumps of xxd, hexdump and od -t x1
           with offsets and column of text; arrays of C with comments; strings of \\x escapes. '#' begins a comment. Text is what has no
-          control characters: no raw profile that passes is text, since 25h is 00 in it. --raw and --text say which it is.
+          control characters and few bytes above 7Fh: no raw profile that passes is text, since 25h is 00 in it. --raw and --text say
+          which it is.
 
           An image of 512 bytes is refused (9), since it is no profile, and the lines below say what its profile, bytes 10h-2Fh, would
           get. With --image every file is an image, and that profile is judged in its place.
 
 shell     Drives a chip by lines from a terminal, a pipe or a file: starts, host reads and writes, clocks, frames. It begins with a chip
           started from the shipped image. Exit status: 0, or 2 at the first line that cannot be done (a terminal goes on).
-          --vcd writes IRq, E2Ready, TRunning, the FIFO's held count, the timer's value and the command as a waveform, for GTKWave. Its
-          time scale is 1 ps; clock n of 13.56 MHz stands at n * 25000000 / 339 ps, rounded. Calls at one clock stand 1 ps apart.
+          --vcd writes IRq (of PrimaryStatus), E2Ready, TRunning, the FIFO's held count, the timer's value and the command as a
+          waveform, for GTKWave. Its time scale is 1 ps, since no scale divides the clock of 13.56 MHz: clock n stands at
+          n * 25000000 / 339 ps, rounded. Calls at one clock stand 1 ps apart, in their order.
 
 What can be typed in the shell:
 

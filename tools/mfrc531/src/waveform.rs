@@ -51,7 +51,7 @@ impl Waveform {
             file,
             "  The clock is 13.56 MHz, 73.746.. ns, which no time scale divides: clock n stands at n * 25000000 / 339 ps, rounded."
         )?;
-        writeln!(file, "  Calls at one clock stand 1 ps apart, in their order. held: bytes in the FIFO. command: the code in Command.")?;
+        writeln!(file, "  Calls at one clock stand 1 ps apart, in their order. IRq: of PrimaryStatus. held: bytes in the FIFO. command: the code in Command.")?;
         writeln!(file, "$end")?;
         writeln!(file, "$timescale 1 ps $end")?;
         writeln!(file, "$scope module mfrc531 $end")?;

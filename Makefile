@@ -14,7 +14,7 @@ export MFRC531_LIB_DIR := $(BUILD)
 # Crates that rt proves, or edits that it tries, at a time. Four on two processors: all crates from nothing took 223 s, and 238 s with two.
 export RT_JOBS ?= 4
 
-.PHONY: help run test proved check library install bench soak clean
+.PHONY: help run test proved check library tool install bench soak clean
 
 help:
 	@echo 'make run      build the library, proved, and a first firmware on it; show both at work, and the profile check'
@@ -60,6 +60,8 @@ run: $(BUILD)/lock $(BUILD)/profile_check
 	@tools/check_profiles $(BUILD)/profile_check profiles/*.hex
 
 # The command-line tool, Rust on the library.
+tool: $(BUILD)/mfrc531
+
 $(BUILD)/mfrc531: $(BUILD)/libmfrc531.a FORCE
 	@cd tools/mfrc531 && CARGO_TARGET_DIR=$(BUILD)/cargo cargo build --offline --release --quiet
 	@cmp -s $(BUILD)/cargo/release/mfrc531 $@ || cp $(BUILD)/cargo/release/mfrc531 $@

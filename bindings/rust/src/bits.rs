@@ -124,3 +124,111 @@ pub mod timer_control {
     pub const T_START_TX_END: u8 = 0x02;
     pub const T_START_TX_BEGIN: u8 = 0x01;
 }
+
+#[cfg(test)]
+mod tests {
+    use super::*;
+    use crate::{shipped_image, Chip, Command, Refusal, Register};
+
+    /// A chip with linear addresses.
+    fn chip() -> Result<Chip, Refusal> {
+        let mut chip = Chip::start(&shipped_image())?;
+        chip.write(Register::Page, 0x00)?;
+        Ok(chip)
+    }
+
+    #[test]
+    fn after_a_start() -> Result<(), Refusal> {
+        let mut chip = Chip::start(&shipped_image())?;
+        assert_eq!(chip.read(Register::Page)?, page::USE_PAGE_SELECT);
+        chip.write(Register::Page, 0x00)?;
+        assert_eq!(chip.read(Register::PrimaryStatus)?, primary_status::ERR | primary_status::LO_ALERT);
+        assert_eq!(chip.read(Register::SecondaryStatus)?, secondary_status::E2_READY | secondary_status::CRC_READY);
+        assert_eq!(chip.read(Register::ErrorFlag)?, error_flag::KEY_ERR);
+        Ok(())
+    }
+
+    #[test]
+    fn the_fifo_and_its_alerts() -> Result<(), Refusal> {
+        let mut chip = chip()?;
+        chip.write(Register::FifoLevel, 8 & fifo_level::WATER_LEVEL)?;
+        chip.write(Register::InterruptEn, interrupt_en::SET | interrupt_en::HI_ALERT)?;
+        for _ in 0..65 {
+            chip.write(Register::FifoData, 0x55)?;
+        }
+        let full = primary_status::IRQ | primary_status::ERR | primary_status::HI_ALERT;
+        assert_eq!(chip.read(Register::PrimaryStatus)?, full);
+        assert_eq!(chip.read(Register::InterruptRq)?, interrupt_rq::HI_ALERT);
+        assert_eq!(chip.read(Register::ErrorFlag)?, error_flag::KEY_ERR | error_flag::FIFO_OVFL);
+        chip.write(Register::Control, control::FLUSH_FIFO)?;
+        assert_eq!(chip.read(Register::ErrorFlag)?, error_flag::KEY_ERR);
+        assert_eq!(chip.read(Register::InterruptRq)?, interrupt_rq::HI_ALERT | interrupt_rq::LO_ALERT);
+        Ok(())
+    }
+
+    #[test]
+    fn frames_and_their_errors() -> Result<(), Refusal> {
+        let mut chip = chip()?;
+        let checks = channel_redundancy::RX_CRC_EN | channel_redundancy::PARITY_ODD | channel_redundancy::PARITY_EN;
+        chip.write(Register::ChannelRedundancy, checks)?;
+        chip.write(Register::TimerControl, timer_control::T_START_TX_END | timer_control::T_STOP_RX_BEGIN)?;
+        chip.write(Register::BitFraming, 7 & bit_framing::TX_LAST_BITS)?;
+        chip.write(Register::FifoData, 0x26)?;
+        chip.write(Register::Command, Command::Transceive as u8 & command::COMMAND)?;
+        assert_eq!(chip.take(&mut [0; 66])?.last_bits, 7);
+        assert_eq!(chip.read(Register::InterruptRq)?, interrupt_rq::TX);
+        assert_eq!(chip.read(Register::SecondaryStatus)? & secondary_status::T_RUNNING, secondary_status::T_RUNNING);
+        chip.deliver(&[0x26, 0x00], &[1, 1], 3)?;
+        assert_eq!(chip.read(Register::InterruptRq)?, interrupt_rq::TX | interrupt_rq::RX | interrupt_rq::IDLE);
+        assert_eq!(chip.read(Register::SecondaryStatus)? & secondary_status::RX_LAST_BITS, 3);
+        assert_eq!(chip.read(Register::SecondaryStatus)? & secondary_status::T_RUNNING, 0);
+        assert_eq!(chip.read(Register::ErrorFlag)?, error_flag::KEY_ERR | error_flag::CRC_ERR | error_flag::PARITY_ERR);
+        Ok(())
+    }
+
+    #[test]
+    fn the_timer_and_a_programming() -> Result<(), Refusal> {
+        let mut chip = chip()?;
+        chip.write(Register::TimerClock, timer_clock::T_AUTO_RESTART | (2 & timer_clock::T_PRE_SCALER))?;
+        chip.write(Register::TimerReload, 3)?;
+        chip.write(Register::Control, control::T_START_NOW)?;
+        chip.advance(12)?;
+        assert_eq!((chip.read(Register::TimerValue)?, chip.read(Register::InterruptRq)?), (3, interrupt_rq::TIMER));
+        chip.write(Register::Control, control::STAND_BY | control::POWER_DOWN | control::T_STOP_NOW)?;
+        assert_eq!(chip.read(Register::Control)?, control::STAND_BY | control::POWER_DOWN);
+        assert_eq!(chip.read(Register::SecondaryStatus)? & secondary_status::T_RUNNING, 0);
+        chip.write(Register::Command, Command::WriteE2 as u8)?;
+        for byte in [0x20, 0x00, 0x55] {
+            chip.write(Register::FifoData, byte)?;
+        }
+        assert_eq!(chip.read(Register::SecondaryStatus)? & secondary_status::E2_READY, 0);
+        Ok(())
+    }
+
+    #[test]
+    fn what_may_not_be_accessed() -> Result<(), Refusal> {
+        let mut chip = chip()?;
+        chip.write(Register::Command, Command::LoadConfig as u8)?;
+        for byte in [0x00, 0x00] {
+            chip.write(Register::FifoData, byte)?;
+        }
+        assert_eq!(chip.read(Register::ErrorFlag)?, error_flag::KEY_ERR | error_flag::ACCESS_ERR);
+        Ok(())
+    }
+
+    #[test]
+    fn checksums() -> Result<(), Refusal> {
+        let mut chip = chip()?;
+        let mut of_nothing = |mode| {
+            chip.write(Register::ChannelRedundancy, mode)?;
+            chip.write(Register::CrcPresetLsb, 0xF0)?;
+            chip.write(Register::CrcPresetMsb, 0x0F)?;
+            chip.write(Register::Command, Command::CalcCrc as u8)?;
+            Ok::<_, Refusal>((chip.read(Register::CrcResultLsb)?, chip.read(Register::CrcResultMsb)?))
+        };
+        assert_eq!(of_nothing(0)?, (0xF0, 0x0F));
+        assert_eq!(of_nothing(channel_redundancy::CRC_3309)?, (0x0F, 0xF0));
+        assert_eq!(of_nothing(channel_redundancy::CRC_8)?, (0xF0, 0x00));
+        Ok(())
+    }
+}

@@ -226,7 +226,7 @@ impl Bench<'_> {
         let text = format!("{call}: {answer}");
         self.output.line(&text);
         for ((register, old), (_, new)) in before.iter().zip(&after).filter(|(before, after)| before != after) {
-            self.output.line(&format!("    {register} {old:02X}h -> {new:02X}h{}", led(&in_words(*register, *new))));
+            self.output.line(&format!("    {register} {old:02X}h -> {new:02X}h{}", behind_comma(&in_words(*register, *new))));
         }
         self.calls += 1;
         if self.history.len() == MOST_IN_HISTORY {
@@ -287,7 +287,7 @@ impl Bench<'_> {
         let register = reached(self.chip.memory().page, address);
         self.call(&format!("read {address:02X}"), |bench| {
             Ok(bench.chip.read_at(address).map(|byte| match register {
-                Some(register) => format!("{register} is {byte:02X}h{}", led(&in_words(register, byte))),
+                Some(register) => format!("{register} is {byte:02X}h{}", behind_comma(&in_words(register, byte))),
                 None => format!("no register is there, {byte:02X}h"),
             }))
         })
@@ -309,7 +309,7 @@ impl Bench<'_> {
         let register = reached(self.chip.memory().page, address);
         self.call(&format!("write {address:02X} {byte:02X}"), |bench| {
             Ok(bench.chip.write_at(address, byte).map(|()| match register {
-                Some(register) => format!("{register} gets {byte:02X}h{}{remark}", led(&asked_in_words(register, byte))),
+                Some(register) => format!("{register} gets {byte:02X}h{}{remark}", behind_comma(&asked_in_words(register, byte))),
                 None => "no register is there".to_string(),
             }))
         })
@@ -417,7 +417,7 @@ fn registers_seen(chip: &Chip) -> Vec<(Register, u8)> {
 }
 
 /// Words behind a comma, if there are any.
-fn led(words: &str) -> String {
+fn behind_comma(words: &str) -> String {
     if words.is_empty() {
         String::new()
     } else {

@@ -14,67 +14,84 @@ export MFRC531_LIB_DIR := $(BUILD)
 # Crates that rt proves, or edits that it tries, at a time. Four on two processors: all crates from nothing took 223 s, and 238 s with two.
 export RT_JOBS ?= 4
 
-.PHONY: help run test proved check library tool install bench soak clean
+# What the archives are made of: every file of a crate that is proved.
+SOURCES := crates.txt $(shell find crates -path '*/must-fail' -prune -o -type f -print)
+
+.PHONY: help needed run test proved check library tool install dist bench soak clean
 
 help:
-	@echo 'make run      build the library, proved, and a first firmware on it; show both at work, and the profile check'
+	@echo 'make run      prove and build the library, the tool and a first firmware, and show them at work'
 	@echo 'make test     every test; its last line is the verdict of rt ci'
 	@echo 'make library  build/libmfrc531.a, for include/mfrc531.h'
-	@echo 'make install  library, header, pkg-config file and CMake package under PREFIX (default /usr/local), as they are built'
+	@echo 'make tool     build/mfrc531: profiles as people post them, and a chip to type at'
+	@echo 'make install  library, header, pkg-config file, CMake package and programs under PREFIX (default /usr/local), as they are built'
+	@echo 'make dist     an archive of all that, with the manual, for machines without the Rattle kit'
 	@echo 'make bench    the library beside a plain Rust chip, times and instructions, into docs/PERFORMANCE.md'
 	@echo 'make soak     the differential test for SOAK_CALLS calls (default 50,000,000)'
 	@echo 'make check    prove what has changed'
 	@echo 'make clean    remove what was built'
 
-# Proved, compiled and linked by the toolchain; rt does nothing where it is up to date.
-$(BUILD)/profile_check: FORCE
+# What a machine has to have; one sentence for the first that it has not.
+needed:
+	@command -v rt > /dev/null || { echo 'make: the Rattle kit is not installed: there is no rt on the path. (An archive of "make dist" needs none.)'; exit 1; }
+	@command -v cargo > /dev/null || { echo 'make: Rust is not installed: there is no cargo on the path.'; exit 1; }
+	@command -v $(CC) > /dev/null || { echo 'make: there is no C compiler on the path: $(CC) is not found.'; exit 1; }
+
+# Proved, compiled and linked by the toolchain.
+$(BUILD)/profile_check: $(SOURCES)
 	@mkdir -p $(BUILD)
 	@rt check profile_check > $(BUILD)/profile_check.log 2>&1 || { cat $(BUILD)/profile_check.log; exit 1; }
-	@cmp -s target/bin/profile_check $@ || cp target/bin/profile_check $@
+	@cp target/bin/profile_check $@
 
 # rt check proves crates side by side, rt staticlib one after the other: so the first goes before. Neither proves again what is up to date.
-# up_to_date has the time at which rt was last asked about the library and agreed.
-$(LIBRARY): FORCE
+$(LIBRARY): $(SOURCES)
 	@mkdir -p $(BUILD)
-	@touch $(BUILD)/asked
 	@{ rt check $(INTERFACE) && rt staticlib $(INTERFACE); } > $(BUILD)/library.log 2>&1 || { cat $(BUILD)/library.log; exit 1; }
-	@cmp -s target/staticlib/lib$(INTERFACE).a $@ || cp target/staticlib/lib$(INTERFACE).a $@
-	@mv $(BUILD)/asked $(BUILD)/up_to_date
+	@cp target/staticlib/lib$(INTERFACE).a $@
 
 # Archives for tests alone: libcrc_exports.a has the checksum over slices.
-$(BUILD)/lib%.a: FORCE
+$(BUILD)/lib%.a: $(SOURCES)
 	@mkdir -p $(BUILD)
 	@{ rt check $* && rt staticlib $*; } > $(BUILD)/$*.log 2>&1 || { cat $(BUILD)/$*.log; exit 1; }
-	@cmp -s target/staticlib/lib$*.a $@ || cp target/staticlib/lib$*.a $@
+	@cp target/staticlib/lib$*.a $@
 
-library: $(LIBRARY)
+library: needed $(LIBRARY)
 
 $(BUILD)/lock: examples/lock.c include/mfrc531.h $(LIBRARY)
 	@$(CC) $(CFLAGS) -Iinclude examples/lock.c $(LIBRARY) -o $@
 
-run: $(BUILD)/lock $(BUILD)/profile_check
+# The command-line tool, Rust on the library.
+tool: needed $(BUILD)/mfrc531
+
+$(BUILD)/mfrc531: $(LIBRARY) $(shell find tools/mfrc531 bindings/rust -name target -prune -o -type f -print)
+	@cd tools/mfrc531 && CARGO_TARGET_DIR=$(BUILD)/cargo cargo build --offline --release --quiet
+	@cp $(BUILD)/cargo/release/mfrc531 $@
+
+run: needed
+	@tools/prove $(INTERFACE) profile_check
+	@$(MAKE) --no-print-directory -s $(BUILD)/lock $(BUILD)/profile_check $(BUILD)/mfrc531
+	@echo
 	@echo 'A first firmware, examples/lock.c, on the proved chip:'
 	@$(BUILD)/lock
 	@echo
-	@echo 'The profile check:'
-	@tools/check_profiles $(BUILD)/profile_check profiles/*.hex
-
-# The command-line tool, Rust on the library.
-tool: $(BUILD)/mfrc531
-
-$(BUILD)/mfrc531: $(BUILD)/libmfrc531.a FORCE
-	@cd tools/mfrc531 && CARGO_TARGET_DIR=$(BUILD)/cargo cargo build --offline --release --quiet
-	@cmp -s $(BUILD)/cargo/release/mfrc531 $@ || cp $(BUILD)/cargo/release/mfrc531 $@
+	@echo 'The profile check, on the profiles of profiles/:'
+	@$(BUILD)/mfrc531 profile profiles/*.hex || [ $$? = 1 ]
+	@echo
+	@echo 'A chip to type at: build/mfrc531 shell'
 
 # All that the tests link, proved side by side before any of it is built.
-proved:
-	@mkdir -p $(BUILD)
-	@rt check $(INTERFACE) profile_check crc_exports journal_runs > $(BUILD)/proved.log 2>&1 || { cat $(BUILD)/proved.log; exit 1; }
+proved: needed
+	@tools/prove $(INTERFACE) profile_check crc_exports journal_runs
 
-test: proved $(BUILD)/lock $(BUILD)/profile_check $(BUILD)/mfrc531 $(BUILD)/libcrc_exports.a
+test: proved
+	@$(MAKE) --no-print-directory -s $(BUILD)/lock $(BUILD)/profile_check $(BUILD)/mfrc531 $(BUILD)/libcrc_exports.a
+	tools/crate_map --check
 	tests/profile_check $(BUILD)/profile_check
 	tests/tool $(BUILD)
+	tests/manual $(BUILD)
 	tests/firmware $(BUILD)
+	tests/hal $(LIBRARY)
+	tests/dist "$$($(MAKE) --no-print-directory -s dist)"
 	tests/differential/run $(CALLS)
 	tests/impostors
 	tests/instructions --check docs/PERFORMANCE.md
@@ -91,25 +108,26 @@ bench: $(LIBRARY) $(BUILD)/libcrc_exports.a $(BUILD)/libsecond_caller.a
 soak: $(LIBRARY) $(BUILD)/libcrc_exports.a
 	tests/differential/run $(SOAK_CALLS)
 
-# Takes the library as it is, and needs no rt, where it is there and nothing under crates/ is newer than it; else `make library` goes before.
-# The version stands in the header alone.
+# Takes what is built, and needs no rt where nothing under crates/ is newer. The version stands in the header alone.
 VERSION = $(shell sed -n 's/^.define MFRC531_VERSION_STRING "\(.*\)"/\1/p' include/mfrc531.h)
 INSTALLED = $(DESTDIR)$(abspath $(PREFIX))
-install:
-	@if [ ! -f $(LIBRARY) ] || [ ! -f $(BUILD)/up_to_date ] || [ -n "$$(find crates.txt crates -newer $(BUILD)/up_to_date -print -quit)" ]; then \
-	    $(MAKE) --no-print-directory library; fi
-	install -d $(INSTALLED)/lib/pkgconfig $(INSTALLED)/lib/cmake/mfrc531 $(INSTALLED)/include
+install: $(LIBRARY) $(BUILD)/mfrc531 $(BUILD)/profile_check
+	install -d $(INSTALLED)/lib/pkgconfig $(INSTALLED)/lib/cmake/mfrc531 $(INSTALLED)/include $(INSTALLED)/bin
 	install -m 644 $(LIBRARY) $(INSTALLED)/lib/libmfrc531.a
 	install -m 644 include/mfrc531.h $(INSTALLED)/include/mfrc531.h
+	install -m 755 $(BUILD)/mfrc531 $(BUILD)/profile_check $(INSTALLED)/bin
 	sed 's|@PREFIX@|$(abspath $(PREFIX))|;s|@VERSION@|$(VERSION)|' mfrc531.pc.in | install -m 644 /dev/stdin $(INSTALLED)/lib/pkgconfig/mfrc531.pc
 	install -m 644 cmake/mfrc531-config.cmake $(INSTALLED)/lib/cmake/mfrc531/mfrc531-config.cmake
 	sed 's|@VERSION@|$(VERSION)|' cmake/mfrc531-config-version.cmake.in | \
 	    install -m 644 /dev/stdin $(INSTALLED)/lib/cmake/mfrc531/mfrc531-config-version.cmake
 
+dist: $(LIBRARY) $(BUILD)/mfrc531 $(BUILD)/profile_check
+	@tools/dist $(BUILD) $(VERSION)
+
 check:
 	rt check
 
 clean:
-	rm -rf target build bindings/rust/target tests/differential/target
+	rm -rf target build bindings/rust/target tools/mfrc531/target tests/differential/target
 
 FORCE:

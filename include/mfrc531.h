@@ -40,9 +40,9 @@
 #include <stddef.h>
 #include <stdint.h>
 
-/* The version of this header and of the library. MINOR rises with each request that lands (docs/landings) and 11 stands for R-11, the latest;
- * with a new MINOR compile firmware again, as the chip's layout may have changed. PATCH rises with any other change. MAJOR is 0 until the layout
- * is final; from then on it rises when a name, the layout or an answer changes, so that firmware has to be looked at. */
+/* The version of this header and of the library. MINOR rises by one with each request that lands (docs/landings); 11 is the state with R-2,
+ * R-6 and R-11. With a new MINOR compile firmware again, as the chip's layout may have changed. PATCH rises with any other change. MAJOR is 0
+ * until the layout is final; from then on it rises when a name, the layout or an answer changes, so that firmware has to be looked at. */
 #define MFRC531_VERSION_MAJOR 0
 #define MFRC531_VERSION_MINOR 11
 #define MFRC531_VERSION_PATCH 0

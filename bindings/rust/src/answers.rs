@@ -15,7 +15,7 @@ pub enum Refusal {
     Over65535Clocks,
     /// 4: a take while the chip does not send or holds no byte, or a delivery while it does not receive.
     NotSendingOrReceiving,
-    /// 5: a received frame of 0 or over 64 bytes, another number of parity values, a parity value above 1, or last bits above 7.
+    /// 5: a delivery of no byte or of more than 64, with another number of parity values, a parity value above 1, or last bits above 7.
     FrameMalformed,
     /// 6: the buffer is under 66 bytes.
     BufferUnder66Bytes,

@@ -1,8 +1,8 @@
 //! The reader bench: an MFRC531 card-reader chip in software.
 //!
 //! A [`Chip`] is one chip's whole state. Its methods are the chip's six events; each answers a value or a [`Refusal`], and a refused call
-//! changes neither the chip nor a buffer. The library behind them is proved: for every chip and every argument a call ends, and its answer,
-//! the next chip and every byte lent are those of the definitions in `crates/machine/specs`. This crate only carries arguments and answers.
+//! changes neither the chip nor a buffer. The library behind them is proved: for every chip and every argument a call ends, and what it
+//! answers, the chip that it leaves and all memory lent to it are as the definitions in `crates/machine/specs` say. This crate only carries arguments and answers.
 //!
 //! ```
 //! use mfrc531::{Chip, Command, Register};

@@ -65,7 +65,7 @@ pub struct ChipMemory {
     pub stage: u8,
     /// The FIFO's read position: slot = position mod 64.
     pub fifo_read: u8,
-    /// The FIFO's write position; the held count is their wrapped difference.
+    /// The FIFO's write position. Less the read position, by remainder 256, it is how many bytes are held.
     pub fifo_write: u8,
     /// TimerValue.
     pub timer_value: u8,

@@ -40,7 +40,7 @@ pub enum ProfileRefusal {
         /// where TPreScaler is: 2Ah
         register: u8,
     },
-    /// 12: TimerReload is 0 while a TStartTx bit is set.
+    /// 12: TStartTxBegin or TStartTxEnd is set, but TimerReload is 0.
     ReloadZeroWithStart {
         /// where TimerReload is: 2Ch
         register: u8,

@@ -86,6 +86,7 @@ proved: needed
 test: proved
 	@$(MAKE) --no-print-directory -s $(BUILD)/lock $(BUILD)/profile_check $(BUILD)/mfrc531 $(BUILD)/libcrc_exports.a
 	tools/crate_map --check
+	tests/first_run
 	tests/profile_check $(BUILD)/profile_check
 	tests/tool $(BUILD)
 	tests/manual $(BUILD)

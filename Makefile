@@ -39,20 +39,19 @@ needed:
 
 # Proved, compiled and linked by the toolchain.
 $(BUILD)/profile_check: $(SOURCES)
-	@mkdir -p $(BUILD)
-	@rt check profile_check > $(BUILD)/profile_check.log 2>&1 || { cat $(BUILD)/profile_check.log; exit 1; }
+	@tools/prove --if-changed profile_check
 	@cp target/bin/profile_check $@
 
-# rt check proves crates side by side, rt staticlib one after the other: so the first goes before. Neither proves again what is up to date.
+# tools/prove has crates proved side by side, rt staticlib one after the other: so the first goes before. Neither proves again what is up to date.
 $(LIBRARY): $(SOURCES)
-	@mkdir -p $(BUILD)
-	@{ rt check $(INTERFACE) && rt staticlib $(INTERFACE); } > $(BUILD)/library.log 2>&1 || { cat $(BUILD)/library.log; exit 1; }
+	@tools/prove --if-changed $(INTERFACE)
+	@rt staticlib $(INTERFACE) > $(BUILD)/library.log 2>&1 || { cat $(BUILD)/library.log; exit 1; }
 	@cp target/staticlib/lib$(INTERFACE).a $@
 
 # Archives for tests alone: libcrc_exports.a has the checksum over slices.
 $(BUILD)/lib%.a: $(SOURCES)
-	@mkdir -p $(BUILD)
-	@{ rt check $* && rt staticlib $*; } > $(BUILD)/$*.log 2>&1 || { cat $(BUILD)/$*.log; exit 1; }
+	@tools/prove --if-changed $*
+	@rt staticlib $* > $(BUILD)/$*.log 2>&1 || { cat $(BUILD)/$*.log; exit 1; }
 	@cp target/staticlib/lib$*.a $@
 
 library: needed $(LIBRARY)

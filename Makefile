@@ -82,21 +82,51 @@ run: needed
 proved: needed
 	@tools/prove $(INTERFACE) profile_check crc_exports journal_runs
 
+# Each by itself, two at a time; a test's lines are shown together when it has ended.
+TESTS := differential firmware contracts_bound tool impostors dist hal first_run instructions profile_check manual crate_map
+TRIED := $(addprefix try_,$(TESTS))
+.PHONY: $(TRIED)
+
 test: proved
 	@$(MAKE) --no-print-directory -s $(BUILD)/lock $(BUILD)/profile_check $(BUILD)/mfrc531 $(BUILD)/libcrc_exports.a
-	tools/crate_map --check
-	tests/first_run
-	tests/profile_check $(BUILD)/profile_check
-	tests/tool $(BUILD)
-	tests/manual $(BUILD)
-	tests/firmware $(BUILD)
-	tests/hal $(LIBRARY)
-	tests/dist "$$($(MAKE) --no-print-directory -s dist)"
-	tests/differential/run $(CALLS)
-	tests/impostors
-	tests/instructions --check docs/PERFORMANCE.md
-	tests/contracts_bound
+	@$(MAKE) --no-print-directory -j2 --output-sync=target $(TRIED)
 	rt ci
+
+try_crate_map:
+	tools/crate_map --check
+
+try_first_run:
+	tests/first_run
+
+try_profile_check:
+	tests/profile_check $(BUILD)/profile_check
+
+try_tool:
+	tests/tool $(BUILD)
+
+try_manual:
+	tests/manual $(BUILD)
+
+try_firmware:
+	tests/firmware $(BUILD)
+
+try_hal:
+	tests/hal $(LIBRARY)
+
+try_dist:
+	tests/dist "$$($(MAKE) --no-print-directory -s dist)"
+
+try_differential:
+	tests/differential/run $(CALLS)
+
+try_impostors:
+	tests/impostors
+
+try_instructions:
+	tests/instructions --check docs/PERFORMANCE.md
+
+try_contracts_bound:
+	tests/contracts_bound
 
 # The same library with a second exported caller of the events, for a look at what that costs.
 $(BUILD)/libsecond_caller.a: FORCE

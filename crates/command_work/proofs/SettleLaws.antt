@@ -10,7 +10,7 @@ use borrow.Author.Tests.{eq-eqb, ne-eqb, lt-leb, le-leb}
 use Rattle.machine.specs.State.{Machine, Command, WriteE2, CalcCRC, addressing, ready, withCommand}
 use Rattle.machine.specs.Memory.{addressOf}
 use Rattle.machine.specs.Commands.{raisedTx, ended, enough, argument, taken, checksumTaken, latched, writeStepped, steppedAs, stepped, settled}
-use Rattle.machine.proofs.WellFormed.Parts.{by-cond, either}
+use Rattle.machine.proofs.Cases.{by-cond, either}
 use Rattle.state.specs.View.{Core, commandOf}
 use Rattle.state.proofs.StageLaws.{by-stage}
 

@@ -16,7 +16,7 @@ use Rattle.bits.specs.Bits.{Bytes}
 use Rattle.bits.proofs.Bytes.{byte-at, bytes-take}
 use Rattle.machine.specs.State.{Writing, WriteE2, addressing, ready}
 use Rattle.machine.specs.WellFormed.{latchedBytes}
-use Rattle.machine.proofs.WellFormed.Parts.{either}
+use Rattle.machine.proofs.Cases.{either}
 use Rattle.machine.proofs.WellFormed.Fifo.{no-bytes}
 use Rattle.state.specs.View.{Core, core, heldCount, heldFrom, writingOf, commandOf, viewOf}
 use Rattle.state.specs.Meets.{Whole}

@@ -16,7 +16,8 @@ use Rattle.machine.specs.Fifo.{offered, flushed, alerted}
 use Rattle.machine.specs.Timer.{timerStarted, timerStopped}
 use Rattle.machine.specs.Commands.{programs, clearedErrors, commandStarted, commandWritten, enough, steppedAs, settled}
 use Rattle.machine.specs.Registers.{controlWritten, registerWritten}
-use Rattle.machine.proofs.WellFormed.Parts.{by-cond, either, both}
+use Rattle.machine.proofs.Cases.{by-cond, either}
+use Rattle.machine.proofs.WellFormed.Parts.{both}
 use Rattle.state.specs.View.{Core, core, commandOf, view, viewOf, withState}
 use Rattle.state.specs.Formed.{agree}
 use Rattle.state.specs.Turns.{Sizes, Turned}

@@ -12,7 +12,7 @@ use Rattle.machine.specs.State.{Machine, Command, Writing, Idle, WriteE2, ReadE
 use Rattle.machine.specs.Fifo.{registerAt}
 use Rattle.machine.specs.Memory.{roomInBlock}
 use Rattle.machine.specs.Commands.{codeOf, programs, commandWritten}
-use Rattle.machine.proofs.Cases.{within-write-e2}
+use Rattle.machine.proofs.Cases.{either, within-write-e2}
 use Rattle.journal.specs.Entries as e
 use Rattle.journal.specs.Entries.{Entry, collect}
 use Rattle.journal.specs.Journal.{Journal, entered, offer, offerAll, leaveFrom, leave, leaveAll, Use, address, number, key, checksum, memory, leaveAs, leaveAllAs, usesOf, based, basedWithin, basedBy, addressHeld, offersOf, begun, enterCommand, enterRegister}
@@ -54,10 +54,6 @@ module _ (P : Entry → Type 0) where
         appended = b .appended ∙ ap (λ (z : List Entry). z ++ b .entries) (a .appended) ∙ append-assoc (j .entries) (a .entries) (b .entries);
         each = each-both (a .entries) (b .entries) (a .each) (b .each);
       }
-
-  pub adds-either : (j : Journal) (t : Bool) (x y : Journal) → Adds j x → Adds j y → Adds j (cond t x y)
-  adds-either j true x y p q = p
-  adds-either j false x y p q = q
 
   -- The first held byte leaves, or all do and the event is entered.
   pub leave-adds : (x : ℕ → Entry) → ((b : ℕ) → P (x b)) → (j : Journal) → Adds j (leave x j)
@@ -130,7 +126,7 @@ module _ (P : Entry → Type 0) where
   based-adds c before j = within-write-e2 (λ k. Adds j k) (λ w. basedWithin w before j) j c (λ w is. go w) (adds-none j j refl)
     where
       go : (w : Writing) → Adds j (basedWithin w before j)
-      go addressing = adds-either j (leb 2 (length (before .held))) _ j (adds-none j (based (addressHeld before) j) refl) (adds-none j j refl)
+      go addressing = either (Adds j) (leb 2 (length (before .held))) _ j (adds-none j (based (addressHeld before) j) refl) (adds-none j j refl)
       go (ready a) = adds-none j j refl
       go (programming a bs left) = adds-none j j refl
 
@@ -174,12 +170,12 @@ module _ (P : Entry → Type 0) where
     begun-adds : (c : Command) (m : Machine) (j : Journal) → Adds j (begun c m j)
     begun-adds c m j =
         let x = e.calcCRC (registerAt m 0x22) (registerAt m 0x23) (registerAt m 0x24) in
-        adds-either j (eqb (codeOf c) 0x12) (entered x j) j (adds-one j (entered x j) x refl (moved .began (registerAt m 0x22) (registerAt m 0x23) (registerAt m 0x24))) (adds-none j j refl)
+        either (Adds j) (eqb (codeOf c) 0x12) (entered x j) j (adds-one j (entered x j) x refl (moved .began (registerAt m 0x22) (registerAt m 0x23) (registerAt m 0x24))) (adds-none j j refl)
 
     pub register-adds : (r v : ℕ) (m : Machine) (j : Journal) → Adds j (enterRegister r v m j)
     register-adds r v m j =
         let none = adds-none j j refl in
-        adds-either j (eqb (r % 8) 0) j _ none
-        (adds-either j (eqb r 0x01) (enterCommand v m j) _ (adds-either j (programs (m .command)) j _ none (begun-adds (commandWritten v m .command) m j))
-        (adds-either j (eqb r 0x02) (offer v j) _ (offer-adds v j)
-        (adds-either j (eqb r 0x09) _ j (adds-either j (bitSet v 0) _ j (all-adds (e.left e.flush) e.flushed (moved .to-flush) (moved .flushed) j) none) none)))
+        either (Adds j) (eqb (r % 8) 0) j _ none
+        (either (Adds j) (eqb r 0x01) (enterCommand v m j) _ (either (Adds j) (programs (m .command)) j _ none (begun-adds (commandWritten v m .command) m j))
+        (either (Adds j) (eqb r 0x02) (offer v j) _ (offer-adds v j)
+        (either (Adds j) (eqb r 0x09) _ j (either (Adds j) (bitSet v 0) _ j (all-adds (e.left e.flush) e.flushed (moved .to-flush) (moved .flushed) j) none) none)))

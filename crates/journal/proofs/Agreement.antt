@@ -16,6 +16,7 @@ use Rattle.crc.proofs.Laws.{in-parts}
 use Rattle.machine.specs.State.{Machine, Checksum, Command, Writing, Idle, WriteE2, ReadE2, LoadConfig, LoadKeyE2, LoadKey, CalcCRC, Transmit, Receive, TransceiveSending, TransceiveReceiving, addressing, ready, programming}
 use Rattle.machine.specs.Fifo.{offered, offeredAll, restOf}
 use Rattle.machine.specs.Memory.{storedFrom}
+use Rattle.machine.proofs.Cases.{by-cond}
 use Rattle.journal.specs.Entries as e
 use Rattle.journal.specs.Entries.{Entry, bytesIn, bytesOut, collect, InTurn, Latest, noChecksum, noted, latestFrom, Byte, Memory, remembered, memoryFrom}
 use Rattle.journal.specs.Journal.{Journal, entered, offer, offerAll, leaveFrom, leave, leaveAll, Use, address, number, key, checksum, memory, counted, leaveAs, leaveAllAs, based}
@@ -93,11 +94,6 @@ module _ (image : List ℕ) where
         whole = a .whole;
       }
 
-  -- What holds of both holds of the one that a test picks.
-  pub either : (P : Machine → Type 0) (t : Bool) {x y : Machine} → (t ≡ true → P x) → (t ≡ false → P y) → P (cond t x y)
-  either P true p q = p refl
-  either P false p q = q refl
-
   offer-held : (b : ℕ) (j : Journal) → offer b j .held ≡ cond (ltb (length (j .held)) 64) (j .held ++ b ∷ []) (j .held)
   unfolding offer
   offer-held b j = go (ltb (length (j .held)) 64)
@@ -111,7 +107,7 @@ module _ (image : List ℕ) where
   pub offered-agrees : (b : ℕ) (m : Machine) (j : Journal) → AgreesWith m j → AgreesWith (offered b m) (offer b j)
   unfolding offered
   offered-agrees b m j a =
-      either (λ n. AgreesWith n (offer b j)) (ltb (length (m .held)) 64)
+      by-cond (λ n. AgreesWith n (offer b j)) (ltb (length (m .held)) 64) _ _
       (λ is. quietly a (quietly-offer b j) (joined true is) refl (a .same-place) (a .key-clear))
       (λ is. quietly a (quietly-offer b j) (joined false is) refl (a .same-place) (a .key-clear))
     where

@@ -16,7 +16,7 @@ use Rattle.machine.specs.Timer.{timerStarted, timerStopped, timerClock}
 use Rattle.machine.specs.Commands.{programs, clearedErrors, commandStarted, commandWritten, checksumStarted, withKeyErr, ended, settled, raisedTx, raisedRx}
 use Rattle.machine.specs.Registers.{pageWritten, controlWritten, interruptsWritten, registerWritten}
 use Rattle.machine.specs.Events.{batchStored, programmed, commandClocked, clock, clocks, started}
-use Rattle.machine.proofs.Cases.{while-programming}
+use Rattle.machine.proofs.Cases.{either, while-programming}
 use Rattle.journal.specs.Entries as e
 use Rattle.journal.specs.Entries.{Entry, Byte, Latest, latestFrom, noChecksum, Memory, memoryFrom}
 use Rattle.journal.specs.Journal.{Journal, entered, offer, offerAll, leave, leaveAll, begun, enterCommand, enterRegister, enterSettled, enterWritten, enterEnd, enterClockOf, enterClocks}
@@ -25,7 +25,7 @@ use Rattle.journal.proofs.Folds.{latest-append, memory-append}
 use Rattle.journal.proofs.Moves.{Moves, moves-both, moves-mark, Leaving, Marking, Quiet, Quietly, grows-all, quietly-all, quietly-leave}
 use Rattle.machine.specs.Frames.{sending, receiving, sent, received, afterSending, txBegun, txEnded, passed, crcFails, parityFails, withFrameErrors}
 use Rattle.machine.specs.Timer.{TStartTxBegin, TStartTxEnd, TStopRx}
-use Rattle.journal.proofs.Agreement.{leave-held, Agrees, AgreesWith, PlaceIs, KeyClear, quietly, either, offered-agrees, offers-agree, programmed-agrees, commanded}
+use Rattle.journal.proofs.Agreement.{leave-held, Agrees, AgreesWith, PlaceIs, KeyClear, quietly, offered-agrees, offers-agree, programmed-agrees, commanded}
 use Rattle.journal.proofs.Steps.{offered-idle, settle-agrees}
 use Rattle.journal.proofs.Timer.{timer-any, timer-command}
 
@@ -41,10 +41,6 @@ module _ (image : List ℕ) where
   -- Agreement as one type that does not compute, for choices among machines.
   record Kept (m : Machine) (j : Journal) : Type 0 where
     agrees : AgreesWith image m j
-
-  choose : (P : Machine → Type 0) (t : Bool) {x y : Machine} → P x → P y → P (cond t x y)
-  choose P true p q = p
-  choose P false p q = q
 
   -- A CalcCRC begins.
   begin-agrees : {h : List ℕ} {c : Command} {k : Checksum} {eeprom : List ℕ} {f : Bool} {j : Journal} (mode lsb msb : ℕ) → Agrees image h c k eeprom f j → waiting c ≡ [] →
@@ -78,16 +74,16 @@ module _ (image : List ℕ) where
 
     start-agrees : (code : ℕ) → Started (commandStarted code (clearedErrors m))
     start-agrees code =
-        choose Started (eqb code 0x00) (record { agrees = plain _ refl tt tt })
-        (choose Started (eqb code 0x01) (record { agrees = plain _ refl tt tt })
-        (choose Started (eqb code 0x03) (record { agrees = plain _ refl tt tt })
-        (choose Started (eqb code 0x07) (record { agrees = plain _ refl tt tt })
-        (choose Started (eqb code 0x0B) (record { agrees = plain _ refl tt tt })
-        (choose Started (eqb code 0x12) (record { agrees = begin-agrees (registerAt m 0x22) (registerAt m 0x23) (registerAt m 0x24) a none })
-        (choose Started (eqb code 0x16) (record { agrees = plain _ refl tt tt })
-        (choose Started (eqb code 0x19) (record { agrees = plain false refl tt refl })
-        (choose Started (eqb code 0x1A) (record { agrees = plain _ refl tt tt })
-        (choose Started (eqb code 0x1E) (record { agrees = plain _ refl tt tt })
+        either Started (eqb code 0x00) _ _ (record { agrees = plain _ refl tt tt })
+        (either Started (eqb code 0x01) _ _ (record { agrees = plain _ refl tt tt })
+        (either Started (eqb code 0x03) _ _ (record { agrees = plain _ refl tt tt })
+        (either Started (eqb code 0x07) _ _ (record { agrees = plain _ refl tt tt })
+        (either Started (eqb code 0x0B) _ _ (record { agrees = plain _ refl tt tt })
+        (either Started (eqb code 0x12) _ _ (record { agrees = begin-agrees (registerAt m 0x22) (registerAt m 0x23) (registerAt m 0x24) a none })
+        (either Started (eqb code 0x16) _ _ (record { agrees = plain _ refl tt tt })
+        (either Started (eqb code 0x19) _ _ (record { agrees = plain false refl tt refl })
+        (either Started (eqb code 0x1A) _ _ (record { agrees = plain _ refl tt tt })
+        (either Started (eqb code 0x1E) _ _ (record { agrees = plain _ refl tt tt })
         (record { agrees = plain _ refl tt tt }))))))))))
 
   command-agrees : (v : ℕ) (m : Machine) (j : Journal) → AgreesWith image m j → AgreesWith image (commandWritten v m) (enterCommand v m j)

@@ -17,7 +17,7 @@ use Rattle.machine.specs.Timer.{timerStarted, timerStopped, timerClock}
 use Rattle.machine.specs.Commands.{programs, commandStarted, commandWritten, clearedErrors, enough, taken, ended, raisedTx, withAccessErr, latched, steppedAs, stepped, settled}
 use Rattle.machine.specs.Registers.{controlWritten, registerWritten}
 use Rattle.machine.specs.Events.{batchStored, programmed, clock, clocks}
-use Rattle.machine.proofs.Cases.{while-programming}
+use Rattle.machine.proofs.Cases.{either, while-programming}
 use Rattle.journal.specs.Entries as e
 use Rattle.journal.specs.Entries.{Entry, Byte, bytesTo, collect}
 use Rattle.journal.specs.Journal.{Journal, offerAll, memory, leaveAllAs, usesOf, basedBy, offersOf, enterStep, enterSettled, enterRegister, enterWritten, enterEnd, enterClockOf, enterClocks}
@@ -137,11 +137,7 @@ unfolding placed collect batch
 placed-batch image a [] = refl
 placed-batch image a (b ∷ bs) = ap (λ (z : List Byte). record { address = a; value = b } ∷ z) (placed-batch image (a + 1) bs)
 
--- What holds of both machines holds of the one that a test picks.
-choose : (P : Machine → Type 0) (t : Bool) {x y : Machine} → P x → P y → P (cond t x y)
-choose P true p q = p
-choose P false p q = q
-
+-- No byte waits for the end of its programming.
 abbrev NoneWait : Machine → Type 0
 NoneWait m = waiting (m .command) ≡ []
 
@@ -191,15 +187,15 @@ module _ (image : List ℕ) where
   step-as : (c : Command) (m : Machine) (j : Journal) → m .command ≡ c → AgreesWith image m j → Enters c j (steppedAs c m .command) (stepOf c (m .eeprom) j)
   unfolding offerAll
   step-as Idle m j is a = enters-plain (plain-step Idle (m .eeprom) j refl) (sym (ap waiting is))
-  step-as (WriteE2 addressing) m j is a = enters-plain (plain-step (WriteE2 addressing) (m .eeprom) j refl) (sym (choose NoneWait (enough 2 m) refl (ap waiting is)))
+  step-as (WriteE2 addressing) m j is a = enters-plain (plain-step (WriteE2 addressing) (m .eeprom) j refl) (sym (either NoneWait (enough 2 m) _ _ refl (ap waiting is)))
   step-as (WriteE2 (ready s)) m j is a =
       let l = latch-enters s m j is a in record { entries = l .entries; appended = l .appended; inside = l .inside; waits = l .waits }
   step-as (WriteE2 (programming s bs left)) m j is a = enters-plain (plain-step (WriteE2 (programming s bs left)) (m .eeprom) j refl) (sym (ap waiting is))
-  step-as ReadE2 m j is a = enters-plain (plain-step ReadE2 (m .eeprom) j refl) (sym (choose NoneWait (enough 3 m) refl (ap waiting is)))
-  step-as LoadConfig m j is a = enters-plain (plain-step LoadConfig (m .eeprom) j refl) (sym (choose NoneWait (enough 2 m) refl (ap waiting is)))
-  step-as LoadKeyE2 m j is a = enters-plain (plain-step LoadKeyE2 (m .eeprom) j refl) (sym (choose NoneWait (enough 2 m) refl (ap waiting is)))
-  step-as LoadKey m j is a = enters-plain (plain-step LoadKey (m .eeprom) j refl) (sym (choose NoneWait (enough 12 m) refl (ap waiting is)))
-  step-as CalcCRC m j is a = enters-plain (plain-step CalcCRC (m .eeprom) j refl) (sym (choose NoneWait (enough 1 m) (ap waiting is) (ap waiting is)))
+  step-as ReadE2 m j is a = enters-plain (plain-step ReadE2 (m .eeprom) j refl) (sym (either NoneWait (enough 3 m) _ _ refl (ap waiting is)))
+  step-as LoadConfig m j is a = enters-plain (plain-step LoadConfig (m .eeprom) j refl) (sym (either NoneWait (enough 2 m) _ _ refl (ap waiting is)))
+  step-as LoadKeyE2 m j is a = enters-plain (plain-step LoadKeyE2 (m .eeprom) j refl) (sym (either NoneWait (enough 2 m) _ _ refl (ap waiting is)))
+  step-as LoadKey m j is a = enters-plain (plain-step LoadKey (m .eeprom) j refl) (sym (either NoneWait (enough 12 m) _ _ refl (ap waiting is)))
+  step-as CalcCRC m j is a = enters-plain (plain-step CalcCRC (m .eeprom) j refl) (sym (either NoneWait (enough 1 m) _ _ (ap waiting is) (ap waiting is)))
   step-as Transmit m j is a = enters-plain (plain-step Transmit (m .eeprom) j refl) (sym (ap waiting is))
   step-as Receive m j is a = enters-plain (plain-step Receive (m .eeprom) j refl) (sym (ap waiting is))
   step-as TransceiveSending m j is a = enters-plain (plain-step TransceiveSending (m .eeprom) j refl) (sym (ap waiting is))
@@ -227,16 +223,16 @@ module _ (image : List ℕ) where
         go false is =
             let none = sym (idle-latch (m .command) is) in
             let code = v % 64 in
-            choose Waits (eqb code 0x00) none
-            (choose Waits (eqb code 0x01) none
-            (choose Waits (eqb code 0x03) none
-            (choose Waits (eqb code 0x07) none
-            (choose Waits (eqb code 0x0B) none
-            (choose Waits (eqb code 0x12) none
-            (choose Waits (eqb code 0x16) none
-            (choose Waits (eqb code 0x19) none
-            (choose Waits (eqb code 0x1A) none
-            (choose Waits (eqb code 0x1E) none
+            either Waits (eqb code 0x00) _ _ none
+            (either Waits (eqb code 0x01) _ _ none
+            (either Waits (eqb code 0x03) _ _ none
+            (either Waits (eqb code 0x07) _ _ none
+            (either Waits (eqb code 0x0B) _ _ none
+            (either Waits (eqb code 0x12) _ _ none
+            (either Waits (eqb code 0x16) _ _ none
+            (either Waits (eqb code 0x19) _ _ none
+            (either Waits (eqb code 0x1A) _ _ none
+            (either Waits (eqb code 0x1E) _ _ none
             none)))))))))
 
     control-waits : (v : ℕ) → Waits (controlWritten v m)
@@ -258,19 +254,19 @@ module _ (image : List ℕ) where
 
     offered-waits : (b : ℕ) → Waits (offered b m)
     unfolding offered
-    offered-waits b = choose Waits (ltb (length (m .held)) 64) refl refl
+    offered-waits b = either Waits (ltb (length (m .held)) 64) _ _ refl refl
 
     register-waits : (r v : ℕ) → Waits (registerWritten r v m)
     unfolding registerWritten
     register-waits r v =
-        choose Waits (eqb (r % 8) 0) refl
-        (choose Waits (eqb r 0x01) (command-waits v)
-        (choose Waits (eqb r 0x02) (offered-waits v)
-        (choose Waits (eqb r 0x06) refl
-        (choose Waits (eqb r 0x07) refl
-        (choose Waits (eqb r 0x09) (control-waits v)
-        (choose Waits (eqb r 0x0F) refl
-        (choose Waits (leb 0x10 r && ltb r 0x30) refl refl)))))))
+        either Waits (eqb (r % 8) 0) _ _ refl
+        (either Waits (eqb r 0x01) _ _ (command-waits v)
+        (either Waits (eqb r 0x02) _ _ (offered-waits v)
+        (either Waits (eqb r 0x06) _ _ refl
+        (either Waits (eqb r 0x07) _ _ refl
+        (either Waits (eqb r 0x09) _ _ (control-waits v)
+        (either Waits (eqb r 0x0F) _ _ refl
+        (either Waits (leb 0x10 r && ltb r 0x30) _ _ refl refl)))))))
 
   -- A host write, with what the active command then does.
   pub written-enters : (r v : ℕ) (m : Machine) (j : Journal) → AgreesWith image m j → Enters (m .command) j (settled (registerWritten r v m) .command) (enterWritten r v m j)

@@ -16,12 +16,12 @@ use Rattle.machine.specs.Timer.{timerClock}
 use Rattle.machine.specs.Commands.{codeOf, enough, taken, ended, withAccessErr, raisedTx, checksumTaken, keyJudged, steppedAs, stepped, settled}
 use Rattle.machine.specs.Registers.{registerWritten}
 use Rattle.machine.specs.Events.{batchStored, clock}
-use Rattle.machine.proofs.Cases.{while-programming}
+use Rattle.machine.proofs.Cases.{either, while-programming}
 use Rattle.journal.specs.Entries as e
 use Rattle.journal.specs.Entries.{Entry, collect, keyBytes}
 use Rattle.journal.specs.Journal.{Journal, offerAll, leave, key, leaveAs, leaveAllAs, usesOf, basedBy, offersOf, enterStep, enterSettled, enterRegister, enterWritten, enterEnd, enterClockOf, enterClocks}
 use Rattle.journal.proofs.Folds.{collect-append}
-use Rattle.journal.proofs.Adding.{Adds, none-of, adds-none, adds-both, adds-either, Moved, step-adds, register-adds}
+use Rattle.journal.proofs.Adding.{Adds, none-of, adds-none, adds-both, Moved, step-adds, register-adds}
 use Rattle.journal.proofs.Agreement.{AgreesWith, KeyClear}
 use Rattle.journal.proofs.Calls.{register-agrees}
 
@@ -68,20 +68,16 @@ step-keyless m j h = step-adds NoKey moved (m .command) (m .eeprom) j (λ is. ab
 abbrev OtherNow : Machine → Type 0
 OtherNow m = isLoadKey (m .command) ≡ false
 
-either : (t : Bool) (x y : Machine) → OtherNow x → OtherNow y → OtherNow (cond t x y)
-either true x y p q = p
-either false x y p q = q
-
 stepped-other : (c : Command) (m : Machine) → isLoadKey c ≡ false → OtherNow m → OtherNow (steppedAs c m)
 stepped-other Idle m h o = o
-stepped-other (WriteE2 addressing) m h o = either (enough 2 m) _ m refl o
-stepped-other (WriteE2 (ready a)) m h o = either (enough 1 m) _ m (either (ltb a 0x10) (ended (withAccessErr m)) (withCommand (WriteE2 (programming a (take (roomInBlock a) (m .held)) programmingClocks)) (taken (roomInBlock a) m)) refl refl) o
+stepped-other (WriteE2 addressing) m h o = either OtherNow (enough 2 m) _ m refl o
+stepped-other (WriteE2 (ready a)) m h o = either OtherNow (enough 1 m) _ m (either OtherNow (ltb a 0x10) (ended (withAccessErr m)) (withCommand (WriteE2 (programming a (take (roomInBlock a) (m .held)) programmingClocks)) (taken (roomInBlock a) m)) refl refl) o
 stepped-other (WriteE2 (programming a bs left)) m h o = o
-stepped-other ReadE2 m h o = either (enough 3 m) _ m refl o
-stepped-other LoadConfig m h o = either (enough 2 m) _ m refl o
-stepped-other LoadKeyE2 m h o = either (enough 2 m) _ m refl o
+stepped-other ReadE2 m h o = either OtherNow (enough 3 m) _ m refl o
+stepped-other LoadConfig m h o = either OtherNow (enough 2 m) _ m refl o
+stepped-other LoadKeyE2 m h o = either OtherNow (enough 2 m) _ m refl o
 stepped-other LoadKey m h o = absurd (true≢false h)
-stepped-other CalcCRC m h o = either (enough 1 m) (raisedTx (checksumTaken m)) m o o
+stepped-other CalcCRC m h o = either OtherNow (enough 1 m) (raisedTx (checksumTaken m)) m o o
 stepped-other Transmit m h o = o
 stepped-other Receive m h o = o
 stepped-other TransceiveSending m h o = o
@@ -188,7 +184,7 @@ module _ (image : List ℕ) where
       while-programming (Keyless j) (λ s bs left. cond (leb left 1) (enterEnd s bs m j) j) j c
       (λ s bs left is.
       let none = adds-none NoKey j j refl in
-      adds-either NoKey j (leb left 1) (enterEnd s bs m j) j (adds-either NoKey j (eqb (length (j .held)) 0) j _ none (settle-keyless (batchStored s bs m) j refl)) none)
+      either (Adds NoKey j) (leb left 1) (enterEnd s bs m j) j (either (Adds NoKey j) (eqb (length (j .held)) 0) j _ none (settle-keyless (batchStored s bs m) j refl)) none)
       (adds-none NoKey j j refl)
 
   pub clocks-keyless : (n : ℕ) (m : Machine) (j : Journal) → Keyless j (enterClocks n m j)

@@ -17,7 +17,7 @@ use Rattle.machine.specs.Commands.{enough, argument, taken, ended, latched, rea
 use Rattle.journal.specs.Journal.{Journal, Use, address, number, key, checksum, memory, leaveAllAs, usesOf, based, basedBy, addressHeld, offersOf, offerAll, enterStep, enterSettled}
 use Rattle.journal.specs.Demand.{waiting}
 use Rattle.journal.proofs.Moves.{Quietly}
-use Rattle.journal.proofs.Agreement.{Agrees, AgreesWith, quietly, either, offers-agree, uses-held, AllPlain, uses-quietly, absorbed-agrees, latched-agrees, commanded, rebased}
+use Rattle.journal.proofs.Agreement.{Agrees, AgreesWith, quietly, offers-agree, uses-held, AllPlain, uses-quietly, absorbed-agrees, latched-agrees, commanded, rebased}
 
 -- All bytes up to a count beyond the end are all bytes.
 pub take-least : (r : ℕ) (h : List ℕ) → take (min r (length h)) h ≡ take r h

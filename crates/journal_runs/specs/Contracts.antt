@@ -1,5 +1,5 @@
--- The contracts of the twelve functions that a run calls: the six entry points of the crate entry_in_place, on a chip lent, and the six functions of the crate
--- by_value. Each asks nothing of its caller and promises the events' relation, of its own call. What is written here of a function is held to
+-- The contracts of the twelve functions that a run calls: the six entry points of the crate entry_in_place, on a chip lent, and the six functions of
+-- the crate entry_by_value. Each asks nothing of its caller and promises the events' relation, of its own call. What is written here of a function is held to
 -- its own contract, generated from its source, by an equation of the whole: a contract that promises less, asks something, or has another call in it
 -- is refused at that function's name.
 -- Assumes nothing.

@@ -1,9 +1,19 @@
--- A function that singles out WriteE2, or a programming (specs/State.antt), has a property where it has it there and under every other command.
+-- Choices: what holds of both sides holds of the one that a test picks; and a function that singles out WriteE2, or a programming (specs/State.antt), has a
+-- property where it has it there and under every other command.
 -- Assumes nothing.
 use Prim.Native.Nat.{ℕ}
 use mathlib.Core.Path.{_≡_, refl}
+use mathlib.Core.Bool.{Bool, true, false, cond}
 use mathlib.Core.List.{List}
 use Rattle.machine.specs.State.{Command, Writing, Idle, WriteE2, ReadE2, LoadConfig, LoadKeyE2, LoadKey, CalcCRC, Transmit, Receive, TransceiveSending, TransceiveReceiving, addressing, ready, programming, withinWriteE2, ofProgramming, whileProgramming}
+
+-- A choice by a test has what both its sides have.
+pub by-cond : {A : Type 0} (P : A → Type 0) (t : Bool) (x y : A) → (t ≡ true → P x) → (t ≡ false → P y) → P (cond t x y)
+by-cond P true x y p q = p refl
+by-cond P false x y p q = q refl
+
+pub either : {A : Type 0} (P : A → Type 0) (t : Bool) (x y : A) → P x → P y → P (cond t x y)
+either P t x y p q = by-cond P t x y (λ e. p) (λ e. q)
 
 module _ {X : Type 0} (P : X → Type 0) where
   pub within-write-e2 : (there : Writing → X) (other : X) (c : Command) → ((w : Writing) → c ≡ WriteE2 w → P (there w)) → P other → P (withinWriteE2 there other c)

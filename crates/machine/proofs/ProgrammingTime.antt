@@ -17,7 +17,7 @@ use Rattle.machine.specs.Registers.{mapped, controlWritten, registerWrit
 use Rattle.machine.specs.Refusals.{hostWrite, refusal}
 use Rattle.machine.specs.Events.{Outcome, written, perform, batchStored, programmed, commandClocked, clock}
 use Rattle.machine.specs.ProgrammingTime.{ProgrammingTime}
-use Rattle.machine.proofs.WellFormed.Parts.{either}
+use Rattle.machine.proofs.Cases.{either}
 
 -- No programming runs, or one that has all its clocks left.
 data Whole : Command → Type 0 where

@@ -7,7 +7,7 @@ use mathlib.Core.List.{List}
 use lib.Dec.{eqb}
 use borrow.Author.Tests.{eqb-true}
 use Rattle.machine.specs.State.{Command, Idle, WriteE2, ReadE2, LoadConfig, LoadKeyE2, LoadKey, CalcCRC, Transmit, Receive, TransceiveSending, TransceiveReceiving, addressing, ready}
-use Rattle.machine.proofs.WellFormed.Parts.{by-cond}
+use Rattle.machine.proofs.Cases.{by-cond}
 use Rattle.state.specs.View.{Core, writingOf, commandOf}
 
 -- No stage but Idle's.

@@ -10,7 +10,7 @@ use lib.ListN.{length, getD, drop, set, length-set, length-append}
 use borrow.Author.Tests.{lt-ltb, le-ltb}
 use Rattle.machine.specs.State.{Machine, withHeld}
 use Rattle.machine.specs.Fifo.{firstOf, restOf, offered, alerted}
-use Rattle.machine.proofs.WellFormed.Parts.{either}
+use Rattle.machine.proofs.Cases.{either}
 use Rattle.state.specs.View.{at, view, viewOf, heldCount, heldOf, raised, marked}
 use Rattle.state.specs.Lent.{stateSlots}
 use Rattle.state.specs.Turns.{Counts, Turns}

@@ -13,7 +13,8 @@ use Rattle.crc.specs.Checksum.{CRC8}
 use Rattle.machine.specs.State.{Writing, addressing, ready, programming}
 use Rattle.machine.specs.Memory.{programmingClocks}
 use Rattle.machine.specs.WellFormed.{wellFormed, timerFormed, writingFormed, commandFormed, checksumFormed, bitsFormed, waits}
-use Rattle.machine.proofs.WellFormed.Parts.{by-cond, both, each}
+use Rattle.machine.proofs.Cases.{by-cond}
+use Rattle.machine.proofs.WellFormed.Parts.{both, each}
 use Rattle.state.specs.View.{Core, core, view, viewOf, writingOf, commandOf, batchStart, heldOf, heldCount}
 use Rattle.state.specs.Formed.{listed, writes, batchFits, agree, isFlag, byteFormed, fieldsFormed, chipFormed}
 use Rattle.state.specs.Turns.{Sizes}

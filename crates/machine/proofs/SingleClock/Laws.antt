@@ -11,7 +11,7 @@ use Rattle.machine.specs.State.{Machine, Command, Writing, Idle, WriteE2
 use Rattle.machine.specs.Timer.{timerClock}
 use Rattle.machine.specs.Commands.{enough, writeStepped, steppedAs, stepped, settled}
 use Rattle.machine.specs.Memory.{roomInBlock}
-use Rattle.machine.proofs.Cases.{while-programming}
+use Rattle.machine.proofs.Cases.{either, while-programming}
 use Rattle.machine.specs.Events.{programmingClocked, commandClocked, clock, clocks}
 
 -- The machine with these requests of HiAlert and LoAlert.
@@ -51,15 +51,10 @@ data Writes : Command → Type 0 where
 abbrev WritesNow : Machine → Type 0
 WritesNow m = Writes (m .command)
 
--- What holds of both machines holds of the one that a test picks.
-either : (P : Machine → Type 0) (t : Bool) {x y : Machine} → P x → P y → P (cond t x y)
-either P true p q = p
-either P false p q = q
-
 -- A step of a WriteE2 leaves it active, or none.
 writeStepped-writes : (w : Writing) (m : Machine) → WritesNow m → WritesNow (writeStepped w m)
-writeStepped-writes addressing m is = either WritesNow (enough 2 m) (writing _) is
-writeStepped-writes (ready a) m is = either WritesNow (enough 1 m) (either WritesNow (ltb a 0x10) over (writing _)) is
+writeStepped-writes addressing m is = either WritesNow (enough 2 m) _ m (writing _) is
+writeStepped-writes (ready a) m is = either WritesNow (enough 1 m) _ m (either WritesNow (ltb a 0x10) _ _ over (writing _)) is
 writeStepped-writes (programming a bs left) m is = is
 
 steppedAs-writes : {c : Command} → Writes c → (m : Machine) → WritesNow m → WritesNow (steppedAs c m)

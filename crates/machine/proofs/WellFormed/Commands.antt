@@ -16,7 +16,8 @@ use Rattle.machine.specs.Fifo.{registerAt}
 use Rattle.machine.specs.Memory.{addressOf, bytesFrom, roomInBlock, programmingClocks, overRegisters}
 use Rattle.machine.specs.Commands.{commandStarted, commandWritten, clearedErrors, argument, taken, latched, writeStepped, readable, readFrom, readBytes, configuredFrom, keyFrom, keyJudged, checksumTaken, checksumStarted, programs, ended, steppedAs, stepped, settled}
 use Rattle.machine.specs.WellFormed.{commandFormed, waits, latchedBytes}
-use Rattle.machine.proofs.WellFormed.Parts.{Almost, Good, by-cond, either, both, new-command, new-checksum, new-registers}
+use Rattle.machine.proofs.Cases.{by-cond, either}
+use Rattle.machine.proofs.WellFormed.Parts.{Almost, Good, both, new-command, new-checksum, new-registers}
 use Rattle.machine.proofs.WellFormed.Memory.{from-bytes, over-bytes, over-length, take-fits, take-some}
 use Rattle.machine.proofs.WellFormed.Checksum.{started-below, absorbed-below}
 use Rattle.machine.proofs.WellFormed.Fifo.{no-bytes, emptied, taken-almost, all-offered, ended-good}

@@ -18,8 +18,8 @@ use Rattle.machine.specs.Registers.{mapped, registerWritten}
 use Rattle.machine.specs.WellFormed.{commandFormed}
 use Rattle.machine.specs.Commands.{raisedTx, settled}
 use Rattle.machine.specs.Events.{started, written, afterRead, programmed, programmingClocked, commandClocked, clock, clocks, advanced, taken, delivered}
-use Rattle.machine.proofs.Cases.{while-programming}
-use Rattle.machine.proofs.WellFormed.Parts.{Almost, Good, by-cond, either, both, each, new-command, new-eeprom}
+use Rattle.machine.proofs.Cases.{by-cond, either, while-programming}
+use Rattle.machine.proofs.WellFormed.Parts.{Almost, Good, both, each, new-command, new-eeprom}
 use Rattle.machine.proofs.WellFormed.Memory.{from-bytes, stored-bytes, stored-length, over-bytes, over-length}
 use Rattle.machine.proofs.WellFormed.Timer.{GoodAs, ticked}
 use Rattle.machine.proofs.WellFormed.Fifo.{no-bytes, read-good}

@@ -12,7 +12,8 @@ use Rattle.bits.proofs.Bytes.{bytes-append, bytes-drop}
 use Rattle.machine.specs.State.{Machine, Idle, withHeld}
 use Rattle.machine.specs.Fifo.{offered, offeredAll, restOf}
 use Rattle.machine.specs.Commands.{taken, ended}
-use Rattle.machine.proofs.WellFormed.Parts.{Almost, Rests, Good, by-cond, new-held, new-command}
+use Rattle.machine.proofs.Cases.{by-cond}
+use Rattle.machine.proofs.WellFormed.Parts.{Almost, Rests, Good, new-held, new-command}
 
 -- No byte at all.
 pub no-bytes : Bytes []

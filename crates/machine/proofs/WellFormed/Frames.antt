@@ -14,7 +14,8 @@ use Rattle.machine.specs.Fifo.{offeredAll}
 use Rattle.machine.specs.Timer.{TStartTxBegin, TStartTxEnd, TStopRx, timerStarted, timerStopped}
 use Rattle.machine.specs.Commands.{raisedTx, raisedRx}
 use Rattle.machine.specs.Frames.{crcWidth, txBegun, txEnded, afterSending, sent, parityFails, hasCrc, passed, crcFails, withFrameErrors, rxStopped, received}
-use Rattle.machine.proofs.WellFormed.Parts.{Almost, Good, either, both, each, new-bits, new-command}
+use Rattle.machine.proofs.Cases.{either}
+use Rattle.machine.proofs.WellFormed.Parts.{Almost, Good, both, each, new-bits, new-command}
 use Rattle.machine.proofs.WellFormed.Timer.{started-almost, stopped-almost}
 use Rattle.machine.proofs.WellFormed.Fifo.{no-bytes, emptied, all-offered, ended-good}
 

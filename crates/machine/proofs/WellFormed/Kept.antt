@@ -13,7 +13,8 @@ use Rattle.machine.specs.WellFormed.{wellFormed, fifoFormed}
 use Rattle.machine.specs.Refusals.{Call, start, hostRead, hostWrite, advance, takeFrame, deliver, ByteCall, allBits, frameFormed, refusal}
 use Rattle.machine.specs.Events.{Outcome, refused, bufferOf, accepted, perform, afterCalls, afterRead, started}
 use Rattle.machine.specs.WellFormedness.{Formed, EachByteCall, WellFormedness}
-use Rattle.machine.proofs.WellFormed.Parts.{Good, by-cond, each, good-formed, formed-good}
+use Rattle.machine.proofs.Cases.{by-cond}
+use Rattle.machine.proofs.WellFormed.Parts.{Good, each, good-formed, formed-good}
 use Rattle.machine.proofs.Performing.{passed-test, not-false}
 use Rattle.machine.proofs.WellFormed.Events.{started-good, written-good, after-read-good, advanced-good, taken-good, delivered-good}
 

@@ -9,7 +9,7 @@ use lib.ListN.{length, take, drop, set, length-set}
 use Rattle.bits.specs.Bits.{Bytes}
 use Rattle.bits.proofs.Bytes.{bytes-take, bytes-drop, bytes-set}
 use Rattle.machine.specs.Memory.{bytesFrom, storedFrom, overRegisters}
-use Rattle.machine.proofs.WellFormed.Parts.{by-cond}
+use Rattle.machine.proofs.Cases.{by-cond}
 
 -- Bytes read from EEPROM.
 pub from-bytes : (eeprom : List ℕ) (address count : ℕ) → Bytes eeprom → Bytes (bytesFrom eeprom address count)

@@ -12,14 +12,6 @@ use Rattle.machine.specs.State.{Machine, Command, Timer, Checksum}
 use Rattle.machine.specs.WellFormed.{fifoFormed, nothingPends, timerFormed, commandFormed, checksumFormed, bitsFormed, waits, latchedBytes, wellFormed}
 use Rattle.machine.specs.WellFormedness.{Formed}
 
--- A choice by a test has what both its sides have.
-pub by-cond : {A : Type 0} (P : A → Type 0) (t : Bool) (x y : A) → (t ≡ true → P x) → (t ≡ false → P y) → P (cond t x y)
-by-cond P true x y p q = p refl
-by-cond P false x y p q = q refl
-
-pub either : {A : Type 0} (P : A → Type 0) (t : Bool) (x y : A) → P x → P y → P (cond t x y)
-either P t x y p q = by-cond P t x y (λ e. p) (λ e. q)
-
 -- Both of two tests hold, and each of two that hold together.
 pub both : {a b : Bool} → a ≡ true → b ≡ true → (a && b) ≡ true
 both {a} {b} p q = rw (p, q)

@@ -14,7 +14,8 @@ use Rattle.machine.specs.Fifo.{flushed}
 use Rattle.machine.specs.Timer.{timerStarted, timerStopped}
 use Rattle.machine.specs.Registers.{pageWritten, controlWritten, registerWritten}
 use Rattle.machine.specs.WellFormed.{bitsFormed}
-use Rattle.machine.proofs.WellFormed.Parts.{Almost, Kept, keep, either, both, each, new-bits, new-registers}
+use Rattle.machine.proofs.Cases.{either}
+use Rattle.machine.proofs.WellFormed.Parts.{Almost, Kept, keep, both, each, new-bits, new-registers}
 use Rattle.machine.proofs.WellFormed.Timer.{started-almost, stopped-almost}
 use Rattle.machine.proofs.WellFormed.Fifo.{emptied, offered-almost}
 use Rattle.machine.proofs.WellFormed.Commands.{written-almost}

@@ -11,7 +11,8 @@ use Rattle.bits.proofs.Bytes.{byte-at}
 use Rattle.machine.specs.State.{Machine, Timer, Command, withTimer}
 use Rattle.machine.specs.Timer.{TPreScaler, TAutoRestart, TimerReload, stoppedAt, runningAt, loadedTimer, restarted, timerStarted, timerStopped, timerStepped, timerClock}
 use Rattle.machine.specs.WellFormed.{timerFormed}
-use Rattle.machine.proofs.WellFormed.Parts.{Almost, Good, by-cond, either, both, each, new-timer}
+use Rattle.machine.proofs.Cases.{by-cond, either}
+use Rattle.machine.proofs.WellFormed.Parts.{Almost, Good, both, each, new-timer}
 
 -- Neither of two tests holds.
 neither : (a b : Bool) → (a || b) ≡ false → (a ≡ false) × (b ≡ false)

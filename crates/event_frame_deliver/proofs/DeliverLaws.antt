@@ -1,4 +1,4 @@
--- Laws of a delivery: which stages receive, what a frame does, by what the code judges of it, and that its bytes are bytes.
+-- Laws of a delivery: what a frame does, by what the code judges of it, and that its bytes are bytes.
 -- Assumes nothing.
 use Prim.Native.Nat.{ℕ}
 use mathlib.Core.Path.{_≡_, refl, ap, _∙_}
@@ -15,12 +15,6 @@ use Rattle.state.proofs.StageLaws.{by-stage}
 use Rattle.state_fifo.specs.Alerts.{alertsOf, alertedFrom}
 use Rattle.state_fifo.proofs.AlertLaws.{alerted-from}
 use Rattle.event_frame_deliver.specs.Judged.{errorBits, frameErrors}
-
--- Two stages receive.
-pub stage-receives : (k : Core) (latch : List ℕ) → (eqb (k .stage) 0x96 || eqb (k .stage) 0x9E) ≡ receiving (commandOf k latch)
-stage-receives k latch =
-    by-stage (λ s command. (eqb s 0x96 || eqb s 0x9E) ≡ receiving command) k latch
-    refl refl refl refl refl refl refl refl refl refl refl (λ o. simp (o .n96, o .n9E))
 
 -- The errors of a frame are set beside what they were.
 frame-marked : (crc parity : Bool) (m : Machine) → marked (errorBits crc parity) m ≡ withFrameErrors crc parity m

@@ -3,10 +3,10 @@
 // The timer is stopped where TimerControl (2Bh) says so, the frame is judged, the bytes that pass are offered to the FIFO, RxIRq is set, and the command ends.
 ghost use mathlib.Core.List.{[]};
 ghost use Rattle.machine.specs.Fifo.{offeredAll};
-ghost use Rattle.machine.specs.Frames.{receiving, rxStopped, received as Frames·received};
+ghost use Rattle.machine.specs.Frames.{rxStopped, received as Frames·received};
 ghost use Rattle.machine.specs.Refusals.{deliver as Refusals·deliver};
 ghost use Rattle.state.specs.declared.Chip.{Chip};
-ghost use Rattle.state.specs.View.{withState, withRegisters};
+ghost use Rattle.state.specs.View.{withRegisters};
 ghost use Rattle.state.specs.Lent.{stateSlots, clocksStateRegisters, clocksStateRegistersSlots, clocksNumbersStateRegistersSlots};
 ghost use Rattle.state.specs.Turns.{Turns, Reads};
 ghost use Rattle.state.specs.Meets.{Promises};
@@ -16,9 +16,9 @@ use frame_checks::parity_fails;
 use frame_checks::passed_length;
 use frame_formed::frame_formed;
 use state::RX_LAST_BITS;
-use state::STAGE;
 use state::ended;
 use state::failed;
+use state::receives;
 use state::requested;
 use state_fifo::alerted;
 use state_fifo::alerts_of;
@@ -26,14 +26,6 @@ use state_fifo::flag;
 use state_fifo::offered;
 use state_formed::formed;
 use state_timer::timer_stopped;
-
-// The chip receives: Receive, or Transceive after its frame was taken.
-fn receives(state: &[u8; 24]) -> bool
-    ensures { λ r. ⌜ Reads (λ m. receiving (m .command)) (withState (now (state .entry))) r ⌝ }
-{
-    let stage = state[STAGE];
-    (stage == 0x96) | (stage == 0x9E)
-}
 
 // The timer is stopped where TimerControl (2Bh) has bit 2 or 3.
 fn rx_stopped(clocks: &mut [u32; 2], state: &mut [u8; 24], registers: &[u8; 32])

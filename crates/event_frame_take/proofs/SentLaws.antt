@@ -13,7 +13,7 @@ use Rattle.machine.specs.State.{Machine, Command, TransceiveSending, withHeld}
 use Rattle.machine.specs.Fifo.{registerAt, alerted}
 use Rattle.machine.specs.Timer.{TStartTxBegin, TStartTxEnd, timerStarted}
 use Rattle.machine.specs.Commands.{ended}
-use Rattle.machine.specs.Frames.{sending, txBegun, txEnded, afterSending, sent}
+use Rattle.machine.specs.Frames.{txBegun, txEnded, afterSending, sent}
 use Rattle.machine.specs.Events.{taken}
 use Rattle.state.specs.View.{Core, commandOf, raised}
 use Rattle.state.specs.Formed.{stageFormed}
@@ -61,11 +61,6 @@ module _ (m : Machine) where
 
   same-command : txEnded (txBegun m) .command ≡ m .command
   same-command = ap (λ (n : Machine). n .command) starts-by ∙ start-command (TStartTxBegin m || TStartTxEnd m) m
-
--- The stages of the commands that send.
-pub stage-sends : (k : Core) (latch : List ℕ) → (eqb (k .stage) 0x5A || eqb (k .stage) 0x5E) ≡ sending (commandOf k latch)
-stage-sends k latch =
-    by-stage (λ s command. (eqb s 0x5A || eqb s 0x5E) ≡ sending command) k latch refl refl refl refl refl refl refl refl refl refl refl (λ o. simp (o .n5A, o .n5E))
 
 -- What follows the frame, by the stage: at 5Eh a Transceive sends, and at every other one the command ends.
 module _ (k : Core) (latch : List ℕ) where

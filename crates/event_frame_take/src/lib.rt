@@ -1,15 +1,12 @@
 // The take of a frame that the chip sends (manual 9.5): it goes to the front of a buffer that has room for the longest, 66 bytes.
 ghost use Prim.Native.Nat.{_+_, _≤_};
 ghost use mathlib.Core.Path.{_≡_};
-ghost use mathlib.Core.Bool.{not, _&&_};
 ghost use mathlib.Core.List.{_++_};
-ghost use lib.Dec.{eqb};
 ghost use lib.ListN.{length, take as ListN·take};
 ghost use Rattle.machine.specs.Refusals.{takeFrame};
-ghost use Rattle.machine.specs.Frames.{sending, frameSent};
-ghost use Rattle.state.specs.View.{view, heldFrom, withState};
+ghost use Rattle.machine.specs.Frames.{frameSent};
+ghost use Rattle.state.specs.View.{view, heldFrom};
 ghost use Rattle.state.specs.Lent.{stateRegistersSlots, clocksNumbersStateRegistersSlots};
-ghost use Rattle.state.specs.Turns.{Reads};
 ghost use Rattle.state.specs.Meets.{Promises};
 ghost use Rattle.state.specs.declared.Chip.{Chip};
 ghost use Rattle.event_frame_take.specs.Front.{atFront, Put, checksumBytes};
@@ -17,7 +14,7 @@ use frame_lengths::least;
 use sent::taken;
 use state::BIT_FRAMING;
 use state::READ;
-use state::STAGE;
+use state::frame_waits;
 use state::held;
 use state_formed::formed;
 
@@ -85,17 +82,6 @@ fn frame_into(state: &[u8; 24], registers: &[u8; 32], slots: &[u8; 64], buffer: 
     )
 }
 
-// A frame waits: Transmit is active, or a Transceive that sends, and a byte is held.
-fn waits(state: &[u8; 24]) -> bool
-    ensures { λ r.
-        let lent = withState (now (state .entry)) in
-        ⌜ Reads (λ m. sending (m .command) && not (eqb (length (m .held)) 0)) lent r ⌝ }
-{
-    let stage = state[STAGE];
-    let sends = (stage == 0x5A) | (stage == 0x5E);
-    sends & (held(state) != 0)
-}
-
 // A take, with its refusals in their order. Answers the frame's length, and the last bits.
 pub fn take<'a, 'b>(
     clocks: &'a mut [u32; 2],
@@ -118,7 +104,7 @@ pub fn take<'a, 'b>(
     if buffer.len() < 66 {
         return 6;
     }
-    if !waits(state) {
+    if !frame_waits(state) {
         return 4;
     }
     let last_bits = state[BIT_FRAMING] % 8;

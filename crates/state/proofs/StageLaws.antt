@@ -1,12 +1,13 @@
--- The stages one by one: what each stage's command has, the command of any stage has.
+-- The stages one by one: what each stage's command has, the command of any stage has; and which stages send and receive.
 -- Assumes nothing.
 use Prim.Native.Nat.{ℕ, _%_}
-use mathlib.Core.Path.{_≡_, sym, subst}
-use mathlib.Core.Bool.{false, cond}
+use mathlib.Core.Path.{_≡_, refl, sym, subst}
+use mathlib.Core.Bool.{false, cond, _||_}
 use mathlib.Core.List.{List}
 use lib.Dec.{eqb}
 use borrow.Author.Tests.{eqb-true}
 use Rattle.machine.specs.State.{Command, Idle, WriteE2, ReadE2, LoadConfig, LoadKeyE2, LoadKey, CalcCRC, Transmit, Receive, TransceiveSending, TransceiveReceiving, addressing, ready}
+use Rattle.machine.specs.Frames.{sending, receiving}
 use Rattle.machine.proofs.Cases.{by-cond}
 use Rattle.state.specs.View.{Core, writingOf, commandOf}
 
@@ -35,3 +36,12 @@ by-stage P k latch p01 p41 p03 p07 p0B p12 p19 p5A p96 p5E p9E idle =
   where
     at-stage : (s : ℕ) (x y : Command) → P s x → (eqb (k .stage) s ≡ false → P (k .stage) y) → P (k .stage) (cond (eqb (k .stage) s) x y)
     at-stage s x y here else = by-cond (P (k .stage)) (eqb (k .stage) s) x y (λ e. subst (λ (n : ℕ). P n x) (sym (eqb-true (k .stage) s e)) here) else
+
+-- Two stages send, and two receive.
+pub stage-sends : (k : Core) (latch : List ℕ) → (eqb (k .stage) 0x5A || eqb (k .stage) 0x5E) ≡ sending (commandOf k latch)
+stage-sends k latch =
+    by-stage (λ s command. (eqb s 0x5A || eqb s 0x5E) ≡ sending command) k latch refl refl refl refl refl refl refl refl refl refl refl (λ o. simp (o .n5A, o .n5E))
+
+pub stage-receives : (k : Core) (latch : List ℕ) → (eqb (k .stage) 0x96 || eqb (k .stage) 0x9E) ≡ receiving (commandOf k latch)
+stage-receives k latch =
+    by-stage (λ s command. (eqb s 0x96 || eqb s 0x9E) ≡ receiving command) k latch refl refl refl refl refl refl refl refl refl refl refl (λ o. simp (o .n96, o .n9E))

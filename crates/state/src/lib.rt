@@ -2,10 +2,14 @@
 //
 // Any memory is some chip, which refusal 7 judges. Names are the data sheet's. specs/View.antt says which machine the arrays are,
 // specs/Formed.antt when a chip is well formed, specs/Turns.antt what a function on some of the arrays promises.
+ghost use mathlib.Core.Bool.{not, _&&_};
+ghost use lib.Dec.{eqb};
+ghost use lib.ListN.{length};
 ghost use Rattle.state.specs.View.{withState, raised, marked, unmarked};
 ghost use Rattle.state.specs.Lent.{clocksState};
-ghost use Rattle.state.specs.Turns.{Turns, Counts, Holds};
+ghost use Rattle.state.specs.Turns.{Turns, Reads, Counts, Holds};
 ghost use Rattle.machine.specs.Commands.{ended as Commands·ended};
+ghost use Rattle.machine.specs.Frames.{sending, receiving};
 
 // A chip. Elements that no name below stands for are kept for later fields; a start leaves them 0.
 #[repr(C)]
@@ -78,6 +82,25 @@ pub fn held(state: &[u8; 24]) -> u8
     ensures { λ r. ⌜ Holds (now (state .entry)) r ⌝ }
 {
     distance(state[READ], state[WRITE])
+}
+
+// A frame waits to be taken: Transmit is active, or a Transceive that sends, and a byte is held.
+pub fn frame_waits(state: &[u8; 24]) -> bool
+    ensures { λ r.
+        let lent = withState (now (state .entry)) in
+        ⌜ Reads (λ m. sending (m .command) && not (eqb (length (m .held)) 0)) lent r ⌝ }
+{
+    let stage = state[STAGE];
+    let sends = (stage == 0x5A) | (stage == 0x5E);
+    sends & (held(state) != 0)
+}
+
+// The chip receives: Receive, or Transceive after its frame was taken.
+pub fn receives(state: &[u8; 24]) -> bool
+    ensures { λ r. ⌜ Reads (λ m. receiving (m .command)) (withState (now (state .entry))) r ⌝ }
+{
+    let stage = state[STAGE];
+    (stage == 0x96) | (stage == 0x9E)
 }
 
 // Requests of a mask's bits 5-0 are set in InterruptRq. The byte is stored only where one is new: a store delays the next load of a word that holds it.

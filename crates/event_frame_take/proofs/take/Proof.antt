@@ -45,8 +45,8 @@ returns-2 c chip whole =
     let buffer = now (s .args .buffer) in
     refused old (takeFrame buffer) 5 (take-short old (well-formed (c .before) chip whole) buffer (c .if2 .taken) .0) whole
 
-waits-requires : tie.Need-waits-requires
-waits-requires c κs = search needs
+frame-waits-requires : tie.Need-frame-waits-requires
+frame-waits-requires c κs = search needs
 
 returns-3 : tie.Need-returns-3
 returns-3 c chip whole =
@@ -55,7 +55,7 @@ returns-3 c chip whole =
     let s = entered (past .before .before) in
     let old = at-entry s chip in
     let buffer = now (s .args .buffer) in
-    let number = take-judged old (well-formed (past .before) chip whole) buffer (omega arith) (judged .waits .ensures old) false (not-true _ (c .if3 .taken)) in
+    let number = take-judged old (well-formed (past .before) chip whole) buffer (omega arith) (judged .frame-waits .ensures old) false (not-true _ (c .if3 .taken)) in
     refused old (takeFrame buffer) 3 (number .0) whole
 
 element-copy-out-last-bits : tie.Need-element-copy-out-last-bits
@@ -100,7 +100,7 @@ returns-4 c chip whole =
     let goes = c .taken .ensures old (whole .sizes) in
     accepted-here old formed (takeFrame buffer) (withClocks (c .taken .last .0) (withState (c .taken .last .1 .0) old)) _ (fills .frame-into .last .1 .1 .1 .0)
     (known-bytes buffer (past .before .before .before .before .before .slice-known .given)) whole
-    (take-judged old formed buffer (omega arith) (judged .waits .ensures old) true (not-false _ (waiting .if3 .left)))
+    (take-judged old formed buffer (omega arith) (judged .frame-waits .ensures old) true (not-false _ (waiting .if3 .left)))
     (record {
       answered = ap (λ (n : ℕ). 0x100 * n + 0x1_0000 * (at (now (s .args .state)) 16 % 8)) (puts .counted);
       turned = goes .machine;
@@ -116,7 +116,7 @@ take-spec =
     formed-requires
     returns
     returns-2
-    waits-requires
+    frame-waits-requires
     returns-3
     element-copy-out-last-bits
     frame-into-requires

@@ -1,10 +1,10 @@
--- `event_frame_deliver::receives` meets its contract, by the stage. Assumes nothing.
+-- `state::receives` meets its contract, by the stage. Assumes nothing.
 use borrow.Author.Needs.{needs}
 use denote.Ref.{now}
 use Rattle.state.specs.View.{core, viewOf, withState}
-use Rattle.event_frame_deliver.proofs.DeliverLaws.{stage-receives}
-use Rattle.event_frame_deliver.proofs.receives.Statement.{statement}
-use Rattle.event_frame_deliver.proofs.receives.Tie as tie
+use Rattle.state.proofs.StageLaws.{stage-receives}
+use Rattle.state.proofs.receives.Statement.{statement}
+use Rattle.state.proofs.receives.Tie as tie
 
 element-copy-out-stage : tie.Need-element-copy-out-stage
 element-copy-out-stage c = search needs

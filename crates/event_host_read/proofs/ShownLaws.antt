@@ -1,4 +1,5 @@
--- Laws of what bytes of the state show: a source that two bytes of interrupts have in common, the byte that flags make, and a stage's code.
+-- Laws of what bytes of the state show: a source that two bytes of interrupts have in common, the byte that flags make, a stage's code, and the stages that
+-- neither send nor receive.
 -- Assumes nothing.
 use Prim.Native.Nat.{ℕ, _%_, _<_}
 use native.Mathlib.Omega.{arith}
@@ -7,15 +8,16 @@ use mathlib.Core.Bool.{Bool, true, false, cond, not, and-comm, _&&_, _||_}
 use mathlib.Core.List.{List}
 use lib.Bits.{bitAnd, and-le-l}
 use lib.Dec.{eqb}
-use borrow.Author.Tests.{eqb-true}
+use borrow.Author.Tests.{eqb-true, ne-eqb}
 use Rattle.bits.specs.Bits.{bitSet}
 use Rattle.bits.proofs.Below.{agree}
 use Rattle.machine.specs.Commands.{codeOf}
+use Rattle.machine.specs.Frames.{sending, receiving}
 use Rattle.machine.specs.Registers.{flag, interruptByte, errorByte}
 use Rattle.state.specs.View.{Core, interruptsOf, errorsOf, commandOf}
 use Rattle.state.specs.Formed.{listed, byteFormed}
 use Rattle.state.proofs.FlagLaws.{and-bit}
-use Rattle.state.proofs.StageLaws.{Other, by-stage}
+use Rattle.state.proofs.StageLaws.{Other, by-stage, stage-sends, stage-receives}
 
 -- A number of six bits is not 0 exactly where one of them is 1.
 abbrev anySet : ℕ → Bool
@@ -68,3 +70,11 @@ stage-code k latch =
     idle o l =
         ap (λ (n : ℕ). n % 64)
         (eqb-true (k .stage) 0x00 (left-of (eqb (k .stage) 0x00) _ (simp (o .n01, o .n41, o .n03, o .n07, o .n0B, o .n12, o .n19, o .n5A, o .n96, o .n5E, o .n9E)) l))
+
+-- A stage below 5Ah neither sends nor receives.
+module _ (k : Core) (latch : List ℕ) (below : k .stage < 0x5A) where
+  pub below-sends : sending (commandOf k latch) ≡ false
+  below-sends = sym (stage-sends k latch) ∙ simp (ne-eqb (k .stage) 0x5A (λ e. omega arith), ne-eqb (k .stage) 0x5E (λ e. omega arith))
+
+  pub below-receives : receiving (commandOf k latch) ≡ false
+  below-receives = sym (stage-receives k latch) ∙ simp (ne-eqb (k .stage) 0x96 (λ e. omega arith), ne-eqb (k .stage) 0x9E (λ e. omega arith))

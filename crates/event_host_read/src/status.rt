@@ -1,11 +1,13 @@
 // PrimaryStatus and SecondaryStatus (manual 2.3): the flags that they show.
 ghost use mathlib.Core.Path.{_≡_};
 ghost use mathlib.Core.Bool.{not};
-ghost use Prim.Native.Nat.{_<_};
+ghost use Prim.Native.Nat.{_*_, _<_, _≤_};
 ghost use lib.Bits.{bitAnd};
 ghost use lib.Dec.{eqb};
-ghost use Rattle.machine.specs.Registers.{primaryStatus, secondaryStatus};
+ghost use Rattle.machine.specs.Registers.{modemState, primaryStatus, secondaryStatus};
+ghost use Rattle.state.specs.View.{withState};
 ghost use Rattle.state.specs.Lent.{clocksState, stateRegisters};
+ghost use Rattle.state.specs.Turns.{Reads};
 ghost use Rattle.event_host_read.specs.Shown.{Shows};
 use command_begin::programs;
 use state::ENABLES;
@@ -13,6 +15,9 @@ use state::ERRORS;
 use state::REQUESTS;
 use state::RUNNING;
 use state::RX_LAST_BITS;
+use state::STAGE;
+use state::frame_waits;
+use state::receives;
 use state_fifo::alerts_of;
 use state_fifo::flag;
 
@@ -31,11 +36,30 @@ fn err(errors: u8) -> bool
     errors != 0
 }
 
-// PrimaryStatus (03h): IRq, Err, HiAlert and LoAlert in bits 3-0; ModemState reads 0.
+// ModemState where PrimaryStatus has it, in bits 6-4: AwaitingRx while the chip receives, TxData while a frame waits to be taken. No stage below 5Ah sends or
+// receives; that is asked first, since a chip that is polled has such a stage most of the time.
+fn modem_state(state: &[u8; 24]) -> u8
+    ensures is { λ r. ⌜ Reads (λ m. 16 * modemState m) (withState (now (state .entry))) r ⌝ }
+    ensures small { λ r. ⌜ r ≤ 0x60 ⌝ }
+{
+    if state[STAGE] < 0x5A {
+        return 0x00;
+    }
+    if receives(state) {
+        return 0x60;
+    }
+    if frame_waits(state) {
+        return 0x20;
+    }
+    0x00
+}
+
+// PrimaryStatus (03h): ModemState in bits 6-4; IRq, Err, HiAlert and LoAlert in bits 3-0.
 pub fn primary_status(state: &[u8; 24], registers: &[u8; 32]) -> u8
     ensures { λ r. ⌜ Shows primaryStatus (stateRegisters (now (state .entry)) (now (registers .entry))) r ⌝ }
 {
-    8 * flag(irq(state[ENABLES], state[REQUESTS]))
+    modem_state(state)
+        + 8 * flag(irq(state[ENABLES], state[REQUESTS]))
         + 4 * flag(err(state[ERRORS]))
         + alerts_of(state, registers)
 }

@@ -1,4 +1,5 @@
 pub mod Cases
+pub mod ModemStates
 pub mod Numbers
 pub mod Performing
 pub mod ProgrammingTime

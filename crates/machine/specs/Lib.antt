@@ -15,3 +15,4 @@ pub mod ProgrammingTime
 pub mod Numbers
 pub mod Readings
 pub mod WaterLevels
+pub mod ModemStates

@@ -11,6 +11,7 @@ use Rattle.machine.specs.State.{Machine, Interrupts, Errors, withPage, w
 use Rattle.machine.specs.Fifo.{registerAt, offered, firstOf, flushed, loAlert, hiAlert}
 use Rattle.machine.specs.Timer.{timerStarted, timerStopped}
 use Rattle.machine.specs.Commands.{codeOf, programs, commandWritten}
+use Rattle.machine.specs.Frames.{sending, receiving}
 
 -- Manual 2.1: with UsePageSelect (Page bit 7) the low three bits of the address choose within page PageSelect; without it the address is the register.
 abbrev pub mapped : ℕ → ℕ → ℕ
@@ -49,11 +50,12 @@ errorByte e = 64 * flag (e .keyErr) + 32 * flag (e .accessErr) + 16 * flag (e .f
 abbrev pub Err : Machine → Bool
 Err m = not (eqb (errorByte (m .status .errors)) 0)
 
--- Bits 6-4 of PrimaryStatus are always 0 (manual 2.3).
+-- ModemState (manual 2.3), by the data sheet's codes: AwaitingRx, 110, while the command receives, whatever is held; TxData, 010, while it sends and a byte is
+-- held; else Idle, 000.
 abbrev pub modemState : Machine → ℕ
-modemState m = 0
+modemState m = cond (receiving (m .command)) 6 (cond (sending (m .command) && not (eqb (length (m .held)) 0)) 2 0)
 
--- PrimaryStatus (manual 2.3): IRq is bit 3, Err bit 2, HiAlert bit 1 and LoAlert bit 0.
+-- PrimaryStatus (manual 2.3): ModemState is bits 6-4, IRq bit 3, Err bit 2, HiAlert bit 1 and LoAlert bit 0.
 abbrev pub primaryStatus : Machine → ℕ
 primaryStatus m = 16 * modemState m + 8 * flag (IRq m) + 4 * flag (Err m) + 2 * flag (hiAlert m) + flag (loAlert m)
 

@@ -41,12 +41,13 @@
 #include <stdint.h>
 
 /* The version of this header and of the library. MINOR rises by one with each request that lands (docs/landings); 11 is the state with R-2,
- * R-6 and R-11. With a new MINOR compile firmware again, as the chip's layout may have changed. PATCH rises with any other change. MAJOR is 0
- * until the layout is final; from then on it rises when a name, the layout or an answer changes, so that firmware has to be looked at. */
+ * R-6 and R-11, 12 brought R-4. With a new MINOR compile firmware again, as the chip's layout may have changed. PATCH rises with any other
+ * change. MAJOR is 0 until the layout is final; from then on it rises when a name, the layout or an answer changes, so that firmware has to be
+ * looked at. */
 #define MFRC531_VERSION_MAJOR 0
-#define MFRC531_VERSION_MINOR 11
+#define MFRC531_VERSION_MINOR 12
 #define MFRC531_VERSION_PATCH 0
-#define MFRC531_VERSION_STRING "0.11.0"
+#define MFRC531_VERSION_STRING "0.12.0"
 
 /* Sizes in bytes, and clocks of 13.56 MHz. */
 #define MFRC531_FIFO_SIZE 64
@@ -203,12 +204,19 @@ enum mfrc531_command_bits {
 };
 
 enum mfrc531_primary_status_bits {
-    MFRC531_MODEM_STATE_MASK = 0x70, /* reads 0 */
+    MFRC531_MODEM_STATE_MASK = 0x70, /* an mfrc531_modem_state */
     MFRC531_MODEM_STATE_SHIFT = 4,
     MFRC531_IRQ = 0x08,      /* a request of InterruptRq is set that InterruptEn enables */
     MFRC531_ERR = 0x04,      /* a bit of ErrorFlag is set */
     MFRC531_HI_ALERT = 0x02, /* the FIFO has room for at most WaterLevel bytes */
     MFRC531_LO_ALERT = 0x01  /* the FIFO holds at most WaterLevel bytes */
+};
+
+/* ModemState, as it is once shifted down: those of the data sheet's eight codes that the bench shows. */
+enum mfrc531_modem_state {
+    MFRC531_MODEM_IDLE = 0,       /* also of a chip that sends, and holds no byte */
+    MFRC531_MODEM_TX_DATA = 2,    /* the chip sends, and holds a byte */
+    MFRC531_MODEM_AWAITING_RX = 6 /* the chip receives */
 };
 
 enum mfrc531_fifo_length_bits {

@@ -102,6 +102,8 @@ static void time_passes(void)
     CHECK((get(MFRC531_REG_INTERRUPT_RQ) & MFRC531_TX_IRQ) != 0);
 }
 
+static int modem_state(void) { return (get(MFRC531_REG_PRIMARY_STATUS) & MFRC531_MODEM_STATE_MASK) >> MFRC531_MODEM_STATE_SHIFT; }
+
 /* The frame is what the FIFO holds at the take; TxIRq and the timer's start come with it, and a delivery ends it all. */
 static void frames(void)
 {
@@ -110,16 +112,17 @@ static void frames(void)
     start();
     put(MFRC531_REG_PAGE, 0x00);
     put(MFRC531_REG_COMMAND, MFRC531_CMD_TRANSCEIVE);
-    CHECK(mfrc531_take(&chip, frame, sizeof frame) == MFRC531_NOT_SENDING_OR_RECEIVING);
+    CHECK(mfrc531_take(&chip, frame, sizeof frame) == MFRC531_NOT_SENDING_OR_RECEIVING && modem_state() == MFRC531_MODEM_IDLE);
     put(MFRC531_REG_FIFO_DATA, 0x93);
     put(MFRC531_REG_FIFO_DATA, 0x20);
     CHECK((get(MFRC531_REG_INTERRUPT_RQ) & MFRC531_TX_IRQ) == 0 && (get(MFRC531_REG_SECONDARY_STATUS) & MFRC531_T_RUNNING) == 0);
     put(MFRC531_REG_BIT_FRAMING, 3 & MFRC531_TX_LAST_BITS_MASK);
+    CHECK(modem_state() == MFRC531_MODEM_TX_DATA);
     mfrc531_answer taken = mfrc531_take(&chip, frame, sizeof frame);
     CHECK(mfrc531_refusal_of(taken) == MFRC531_NOT_REFUSED && mfrc531_value_of(taken) == 2 && mfrc531_last_bits_of(taken) == 3);
     CHECK(frame[0] == 0x93 && frame[1] == 0x20 && get(MFRC531_REG_BIT_FRAMING) == 3);
     CHECK((get(MFRC531_REG_INTERRUPT_RQ) & MFRC531_TX_IRQ) != 0 && (get(MFRC531_REG_SECONDARY_STATUS) & MFRC531_T_RUNNING) != 0);
-    CHECK(chip.stage == MFRC531_STAGE_TRANSCEIVE_RECEIVING);
+    CHECK(chip.stage == MFRC531_STAGE_TRANSCEIVE_RECEIVING && modem_state() == MFRC531_MODEM_AWAITING_RX);
     CHECK(mfrc531_deliver(&chip, byte, sizeof byte, parity, sizeof parity, 0) == MFRC531_NOT_REFUSED);
     CHECK((get(MFRC531_REG_INTERRUPT_RQ) & MFRC531_RX_IRQ) != 0 && get(MFRC531_REG_FIFO_DATA) == 0x12);
 }

@@ -80,6 +80,11 @@ static uint8_t wait_for_request(enum driver_wait wait)
             if (ReadIO(MFRC531_REG_PRIMARY_STATUS) & MFRC531_IRQ)
                 return ReadIO(MFRC531_REG_INTERRUPT_RQ);
             break;
+        case DRIVER_BY_MODEM_STATE: /* Idle again; a card that stays silent leaves it at AwaitingRx, so the timer is asked for too */
+            if ((ReadIO(MFRC531_REG_PRIMARY_STATUS) & MFRC531_MODEM_STATE_MASK) >> MFRC531_MODEM_STATE_SHIFT == MFRC531_MODEM_IDLE ||
+                ReadIO(MFRC531_REG_INTERRUPT_RQ) & MFRC531_TIMER_IRQ)
+                return ReadIO(MFRC531_REG_INTERRUPT_RQ);
+            break;
         case DRIVER_BY_PIN:
             if (hal_irq_pin() == active)
                 return ReadIO(MFRC531_REG_INTERRUPT_RQ);

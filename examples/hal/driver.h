@@ -17,7 +17,7 @@ enum driver_result {
 };
 
 /* What the driver waits on. */
-enum driver_wait { DRIVER_BY_INTERRUPT_RQ, DRIVER_BY_PRIMARY_STATUS, DRIVER_BY_PIN };
+enum driver_wait { DRIVER_BY_INTERRUPT_RQ, DRIVER_BY_PRIMARY_STATUS, DRIVER_BY_MODEM_STATE, DRIVER_BY_PIN };
 
 enum {
     DRIVER_FRAME_BYTES = 64,

@@ -289,6 +289,21 @@ static void polls(void)
     CHECK(met.count == 192);
 }
 
+/* ModemState alone: the first poll finds the frame gone, and the answer's delivery ends it. */
+static void by_modem_state(void)
+{
+    begin();
+    answers(two_bytes, 2);
+    WriteIO(MFRC531_REG_COMMAND, MFRC531_CMD_TRANSCEIVE);
+    CHECK((ReadIO(MFRC531_REG_PRIMARY_STATUS) & MFRC531_MODEM_STATE_MASK) == MFRC531_MODEM_IDLE << MFRC531_MODEM_STATE_SHIFT);
+    WriteIO(MFRC531_REG_FIFO_DATA, 0x30);
+    CHECK((ReadIO(MFRC531_REG_PRIMARY_STATUS) & MFRC531_MODEM_STATE_MASK) == MFRC531_MODEM_AWAITING_RX << MFRC531_MODEM_STATE_SHIFT);
+    CHECK(script.frames == 1);
+    hal_delay(100);
+    CHECK((ReadIO(MFRC531_REG_PRIMARY_STATUS) & MFRC531_MODEM_STATE_MASK) == MFRC531_MODEM_IDLE << MFRC531_MODEM_STATE_SHIFT);
+    CHECK(ReadIO(MFRC531_REG_FIFO_LENGTH) == 2);
+}
+
 /* Page by page, three address lines: the registers are polled under the addresses of their page. */
 static void by_pages(void)
 {
@@ -528,6 +543,7 @@ static const struct {
     {"late_answer", late_answer},
     {"answer_at_once", answer_at_once},
     {"polls", polls},
+    {"by_modem_state", by_modem_state},
     {"by_pages", by_pages},
     {"command_first", command_first},
     {"two_commands", two_commands},

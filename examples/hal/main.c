@@ -95,6 +95,7 @@ int main(void)
     show_result("start", driver_start());
     request("A card answers; the driver polls InterruptRq", answering_card, DRIVER_BY_INTERRUPT_RQ);
     request("A card answers; the driver polls PrimaryStatus", answering_card, DRIVER_BY_PRIMARY_STATUS);
+    request("A card answers; the driver polls ModemState", answering_card, DRIVER_BY_MODEM_STATE);
     request("A card answers; the driver polls pin IRQ", answering_card, DRIVER_BY_PIN);
     request("A card stays silent; the timer ends it after 1 ms", silent_card, DRIVER_BY_INTERRUPT_RQ);
     memory();

@@ -25,8 +25,9 @@ pub mod command {
 
 /// PrimaryStatus, 03h.
 pub mod primary_status {
-    /// Reads 0 on the bench.
+    /// A [`ModemState`](crate::ModemState), once it is shifted down by [`MODEM_STATE_SHIFT`].
     pub const MODEM_STATE: u8 = 0x70;
+    pub const MODEM_STATE_SHIFT: u8 = 4;
     /// A request is also enabled.
     pub const IRQ: u8 = 0x08;
     /// A flag of ErrorFlag is set.
@@ -128,7 +129,7 @@ pub mod timer_control {
 #[cfg(test)]
 mod tests {
     use super::*;
-    use crate::{shipped_image, Chip, Command, Refusal, Register};
+    use crate::{shipped_image, Chip, Command, ModemState, Refusal, Register};
 
     /// A chip with linear addresses.
     fn chip() -> Result<Chip, Refusal> {
@@ -175,7 +176,11 @@ mod tests {
         chip.write(Register::BitFraming, 7 & bit_framing::TX_LAST_BITS)?;
         chip.write(Register::FifoData, 0x26)?;
         chip.write(Register::Command, Command::Transceive as u8 & command::COMMAND)?;
+        let modem_state =
+            |chip: &mut Chip| Ok((chip.read(Register::PrimaryStatus)? & primary_status::MODEM_STATE) >> primary_status::MODEM_STATE_SHIFT);
+        assert_eq!(modem_state(&mut chip)?, ModemState::TxData as u8);
         assert_eq!(chip.take(&mut [0; 66])?.last_bits, 7);
+        assert_eq!(modem_state(&mut chip)?, ModemState::AwaitingRx as u8);
         assert_eq!(chip.read(Register::InterruptRq)?, interrupt_rq::TX);
         assert_eq!(chip.read(Register::SecondaryStatus)? & secondary_status::T_RUNNING, secondary_status::T_RUNNING);
         chip.deliver(&[0x26, 0x00], &[1, 1], 3)?;

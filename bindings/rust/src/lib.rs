@@ -37,7 +37,7 @@ pub mod bits;
 pub mod memory;
 
 pub use answers::{Frame, Refusal};
-pub use names::{Command, Register, UnknownCommand, UnknownRegister};
+pub use names::{Command, ModemState, Register, UnknownCommand, UnknownModemState, UnknownRegister};
 pub use profiles::{check_profile, choose, shipped_image, Choice, ProfileRefusal, SHIPPED_PROFILE};
 
 use answers::Answer;

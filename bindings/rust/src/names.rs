@@ -1,4 +1,5 @@
-//! The data sheet's names for registers and commands.
+//! The data sheet's names for registers, commands and ModemState.
+use crate::bits::primary_status;
 use core::fmt;
 
 /// An enum of bytes with the data sheet's name for each.
@@ -144,9 +145,37 @@ named_bytes! {
     Transceive = 0x1E, "Transceive";
 }
 
+named_bytes! {
+    /// How far the chip is with a frame, by the code in ModemState (PrimaryStatus bits 6-4): those of the data sheet's eight that the bench shows. A chip
+    /// that sends and holds no byte is idle.
+    ///
+    /// ```
+    /// use mfrc531::{Chip, Command, ModemState, Register};
+    /// let mut chip = Chip::start(&mfrc531::shipped_image())?;
+    /// chip.write(Register::FifoData, 0x26)?;
+    /// chip.write(Register::Command, Command::Transceive as u8)?;
+    /// assert_eq!(ModemState::of(chip.read(Register::PrimaryStatus)?), Ok(ModemState::TxData));
+    /// chip.take(&mut [0; 66])?;
+    /// assert_eq!(ModemState::of(chip.read(Register::PrimaryStatus)?), Ok(ModemState::AwaitingRx));
+    /// # Ok::<(), mfrc531::Refusal>(())
+    /// ```
+    ModemState, UnknownModemState, "no code of ModemState that the bench shows";
+    Idle = 0, "Idle";
+    TxData = 2, "TxData";
+    AwaitingRx = 6, "AwaitingRx";
+}
+
+impl ModemState {
+    /// What a byte of [`Register::PrimaryStatus`] says.
+    pub fn of(status: u8) -> Result<ModemState, UnknownModemState> {
+        ModemState::try_from((status & primary_status::MODEM_STATE) >> primary_status::MODEM_STATE_SHIFT)
+    }
+}
+
 #[cfg(test)]
 mod tests {
     use super::*;
+    use std::string::ToString;
 
     #[test]
     fn a_byte_is_its_register_or_none() {
@@ -162,5 +191,14 @@ mod tests {
         let found = (0..=255).filter_map(|byte| Command::try_from(byte).ok());
         assert!(found.eq(Command::ALL.iter().copied()));
         assert_eq!(Command::ALL.len(), 10);
+    }
+
+    #[test]
+    fn a_status_is_its_modem_state_or_none() {
+        for status in 0..=255 {
+            let found = ModemState::of(status).ok();
+            assert_eq!(found, ModemState::ALL.iter().copied().find(|&state| state as u8 == status / 16 % 8));
+        }
+        assert_eq!(ModemState::of(0x55).unwrap_err().to_string(), "05h is no code of ModemState that the bench shows");
     }
 }

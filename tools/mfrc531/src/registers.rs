@@ -3,7 +3,7 @@ use mfrc531::bits::{
     bit_framing, channel_redundancy, control, error_flag, fifo_level, interrupt_rq, page, primary_status, secondary_status, timer_clock,
     timer_control,
 };
-use mfrc531::{Command, Register};
+use mfrc531::{Chip, Command, ModemState, Register};
 
 /// The parts of a register's byte: a mask and its name. One bit is a flag, several are a number.
 fn parts(register: Register) -> &'static [(u8, &'static str)] {
@@ -93,9 +93,13 @@ pub fn asked_in_words(register: Register, byte: u8) -> String {
     }
 }
 
+/// The parts of a byte in words. PrimaryStatus begins with ModemState, by its name, where that is not Idle.
 fn flags(register: Register, byte: u8, none: &str) -> String {
     let parts = parts(register);
     let mut words = Vec::new();
+    if register == Register::PrimaryStatus {
+        words.extend(ModemState::of(byte).ok().filter(|&state| state != ModemState::Idle).map(|state| state.to_string()));
+    }
     for &(mask, name) in parts {
         if mask.is_power_of_two() {
             words.extend((byte & mask != 0).then(|| name.to_string()));
@@ -108,6 +112,13 @@ fn flags(register: Register, byte: u8, none: &str) -> String {
         _ if words.is_empty() => none.to_string(),
         _ => words.join(" "),
     }
+}
+
+/// A copy of a chip whose Page is set to linear addresses, so that reads leave the chip itself as it is.
+pub fn linear_copy(chip: &Chip) -> Chip {
+    let mut copy = chip.clone();
+    let _ = copy.write_at(0x00, 0x00);
+    copy
 }
 
 /// The register that a host address reaches under a value of Page; none where nothing is.

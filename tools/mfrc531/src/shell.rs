@@ -1,7 +1,7 @@
 //! A chip driven by lines: from a terminal, a pipe or a file.
 use crate::output::{complain, Output};
 use crate::posted::{bytes_of_file, plain, quoted, Fault, Form};
-use crate::registers::{asked_in_words, command_named, digits, in_words, named, reached};
+use crate::registers::{asked_in_words, command_named, digits, in_words, linear_copy, named, reached};
 use crate::waveform::Waveform;
 use crate::Ended;
 use mfrc531::bits::{channel_redundancy, page};
@@ -406,12 +406,10 @@ impl Bench<'_> {
     }
 }
 
-/// The registers of pages 0 and 1 as reads would find them, but FIFOData, which a read changes. It is read from a copy, whose Page is set to
-/// linear addresses.
+/// The registers of pages 0 and 1 as reads would find them, but FIFOData, which a read changes.
 fn registers_seen(chip: &Chip) -> Vec<(Register, u8)> {
-    let mut copy = chip.clone();
-    let page = copy.memory().page;
-    let _ = copy.write_at(0x00, 0x00);
+    let mut copy = linear_copy(chip);
+    let page = chip.memory().page;
     let shown = Register::ALL.iter().filter(|&&register| (register as u8) < 0x10 && register != Register::FifoData);
     shown.map(|&register| (register, if register == Register::Page { page } else { copy.read(register).unwrap_or(0) })).collect()
 }

@@ -1,5 +1,7 @@
 //! A waveform of a chip over clocks, as a value change dump (IEEE 1364) that GTKWave shows.
-use mfrc531::Chip;
+use crate::registers::linear_copy;
+use mfrc531::bits::primary_status::{MODEM_STATE, MODEM_STATE_SHIFT};
+use mfrc531::{Chip, Register};
 use std::fs::File;
 use std::io::{self, BufWriter, Write};
 use std::path::Path;
@@ -11,8 +13,15 @@ struct Seen {
 }
 
 /// Name, number of bits, and identifier in the file.
-const SIGNALS: [(&str, usize, char); 6] =
-    [("IRq", 1, 'i'), ("E2Ready", 1, 'e'), ("TRunning", 1, 't'), ("held", 7, 'h'), ("timer_value", 8, 'v'), ("command", 6, 'c')];
+const SIGNALS: [(&str, usize, char); 7] = [
+    ("IRq", 1, 'i'),
+    ("E2Ready", 1, 'e'),
+    ("TRunning", 1, 't'),
+    ("held", 7, 'h'),
+    ("timer_value", 8, 'v'),
+    ("command", 6, 'c'),
+    ("ModemState", 3, 'm'),
+];
 
 impl Seen {
     fn of(chip: &Chip) -> Seen {
@@ -25,9 +34,16 @@ impl Seen {
                 memory.held(),
                 memory.timer_value,
                 memory.stage & 0x3F,
+                modem_state(chip),
             ],
         }
     }
+}
+
+/// ModemState, which is no part of the chip's memory: it is what a read of PrimaryStatus shows.
+fn modem_state(chip: &Chip) -> u8 {
+    let status = linear_copy(chip).read(Register::PrimaryStatus).unwrap_or(0);
+    (status & MODEM_STATE) >> MODEM_STATE_SHIFT
 }
 
 pub struct Waveform {
@@ -51,7 +67,7 @@ impl Waveform {
             file,
             "  The clock is 13.56 MHz, 73.746.. ns, which no time scale divides: clock n stands at n * 25000000 / 339 ps, rounded."
         )?;
-        writeln!(file, "  Calls at one clock stand 1 ps apart, in their order. IRq: of PrimaryStatus. held: bytes in the FIFO. command: the code in Command.")?;
+        writeln!(file, "  Calls at one clock stand 1 ps apart, in their order. IRq, ModemState: of PrimaryStatus. held: bytes in the FIFO. command: the code in Command.")?;
         writeln!(file, "$end")?;
         writeln!(file, "$timescale 1 ps $end")?;
         writeln!(file, "$scope module mfrc531 $end")?;

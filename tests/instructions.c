@@ -138,6 +138,7 @@ static void play(void)
 
 static void nothing(void) {}
 static void begin_crc(void) { put(MFRC531_REG_COMMAND, MFRC531_CMD_CALC_CRC); }
+static void receive(void) { put(MFRC531_REG_COMMAND, MFRC531_CMD_RECEIVE); }
 
 static void run_timer(void)
 {
@@ -150,6 +151,7 @@ static const struct { const char *kind; void (*prepare)(void), (*round)(void); }
     {"recorded-mix", record, play},
     {"driver-mix", nothing, drive},
     {"poll", nothing, poll_status},
+    {"poll-receiving", receive, poll_status},
     {"fifo-write", nothing, fill_fifo},
     {"crc-start", nothing, start_crc},
     {"crc-byte", begin_crc, feed_crc},

@@ -392,7 +392,7 @@ fn notice(fault: u8, options: &Options) -> bool {
             }
         };
     }
-    let (failure, shrink, show) = planted!(1 2 3 4 5 6 7 8 9 10 11 12 13 14 15 16 17 18 19 20 21 22 23 24);
+    let (failure, shrink, show) = planted!(1 2 3 4 5 6 7 8 9 10 11 12 13 14 15 16 17 18 19 20 21 22 23 24 25 26 27);
     let name = plain::fault::NAMES[usize::from(fault) - 1];
     match failure {
         Some(failure) => {

@@ -43,9 +43,12 @@ pub mod fault {
     pub const STAGE_81_IS_LISTED: u8 = 22;
     pub const NEXT_ADDRESS_JUDGED_FOR_WRITE_E2_ALONE: u8 = 23;
     pub const RESERVED_IS_JUDGED: u8 = 24;
+    pub const EMPTY_FIFO_IS_SENT: u8 = 25;
+    pub const HELD_BYTES_HIDE_RECEPTION: u8 = 26;
+    pub const RECEPTION_IS_PREPARED: u8 = 27;
 
     /// What the faults are, from 1 on.
-    pub const NAMES: [&str; 24] = [
+    pub const NAMES: [&str; 27] = [
         "WaterLevel is off by one",
         "a Command write clears FIFOOvfl",
         "an overflow drops the oldest byte",
@@ -70,6 +73,9 @@ pub mod fault {
         "stage 81h is listed",
         "the next address is judged for WriteE2 alone",
         "a reserved field is judged",
+        "ModemState is TxData with an empty FIFO",
+        "ModemState is Idle while bytes are held by a chip that receives",
+        "ModemState is PrepareRx while the chip receives",
     ];
 }
 
@@ -518,7 +524,7 @@ impl<const FAULT: u8> FaultyChip<FAULT> {
             0x03 => {
                 let irq = self.requests & self.enables != 0;
                 let err = self.errors != 0;
-                u8::from(irq) << 3 | u8::from(err) << 2 | self.alerts()
+                self.modem_state() << 4 | u8::from(irq) << 3 | u8::from(err) << 2 | self.alerts()
             }
             0x04 => self.fifo.held(),
             0x05 => {
@@ -682,6 +688,21 @@ impl<const FAULT: u8> FaultyChip<FAULT> {
             (0, _) => 0,
             (low, true) => (self.page & 7) << 3 | low,
             (_, false) => address,
+        }
+    }
+
+    /// ModemState by the sheet's codes: data is being sent, or reception is awaited.
+    #[inline]
+    fn modem_state(&self) -> u8 {
+        let held = self.fifo.held() > 0;
+        match self.command {
+            Command::Receive | Command::Transceive { receiving: true } => match FAULT {
+                fault::HELD_BYTES_HIDE_RECEPTION if held => 0b000,
+                fault::RECEPTION_IS_PREPARED => 0b101,
+                _ => 0b110,
+            },
+            Command::Transmit | Command::Transceive { receiving: false } if held || FAULT == fault::EMPTY_FIFO_IS_SENT => 0b010,
+            _ => 0b000,
         }
     }
 

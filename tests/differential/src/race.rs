@@ -239,9 +239,10 @@ macro_rules! line {
 }
 
 /// What is raced, beside the recorded mix; the numbers are how many calls, or clocks, a round has. The first is the driver's mix.
-const LINES: [Line; 12] = [
+const LINES: [Line; 13] = [
     line!("mix of host accesses: a command, its bytes, polls, the answer", 1000, &[], mix),
     line!("status poll (host read of PrimaryStatus)", 1000, &[], status_poll),
+    line!("status poll while the chip receives", 1000, &[(COMMAND, 0x16)], status_poll),
     line!("host read of a stored register", 1000, &[], register_reads),
     line!("host write of a stored register", 1000, &[], register_writes),
     line!("host write and host read of FIFOData, each", 1000, &[], fifo_pairs),
@@ -365,9 +366,10 @@ fn timer_lap<B: Bench>(chip: &mut B) -> u64 {
 }
 
 /// The kinds of calls whose instructions tests/instructions counts, by the names that tests/instructions.c has, with the same calls.
-const COUNTED: [Line; 8] = [
+const COUNTED: [Line; 9] = [
     line!("driver-mix", 1000, &[], mix),
     line!("poll", 1000, &[], status_poll),
+    line!("poll-receiving", 1000, &[(COMMAND, 0x16)], status_poll),
     line!("fifo-write", 1024, &[], fifo_writes),
     line!("crc-start", 1000, &[], crc_starts),
     line!("crc-byte", 1000, &[(COMMAND, 0x12)], crc_bytes),

@@ -379,6 +379,39 @@ fn a_byte_taken_at_once_raises_no_alert() {
 }
 
 #[test]
+fn modem_states() {
+    let mut buffer = [0; 66];
+    let mut chip = chip();
+    let rest = chip.get(PRIMARY_STATUS);
+    assert_eq!(rest & 0xF0, 0);
+    for (code, sent) in [(0x1A, 0x00), (0x1E, 0x60)] {
+        chip.set(COMMAND, code);
+        assert_eq!(chip.get(PRIMARY_STATUS) & 0xF0, 0x00);
+        chip.set(FIFO_DATA, 0x26);
+        assert_eq!(chip.get(PRIMARY_STATUS) & 0xF0, 0x20);
+        assert_eq!((chip.get(FIFO_DATA), chip.get(PRIMARY_STATUS) & 0xF0), (0x26, 0x00));
+        chip.set(FIFO_DATA, 0x52);
+        assert_eq!(chip.get(PRIMARY_STATUS) & 0xF0, 0x20);
+        chip.take(&mut buffer).unwrap();
+        assert_eq!(chip.get(PRIMARY_STATUS) & 0xF0, sent);
+        chip.set(COMMAND, 0x00);
+    }
+    chip.set(COMMAND, 0x16);
+    assert_eq!(chip.get(PRIMARY_STATUS) & 0xF0, 0x60);
+    chip.set(FIFO_DATA, 0x01);
+    assert_eq!(chip.get(PRIMARY_STATUS) & 0xF0, 0x60);
+    chip.deliver(&[1], &[0], 0).unwrap();
+    assert_eq!(chip.get(PRIMARY_STATUS) & 0xF0, 0x00);
+    // No other code, known or not, shows anything.
+    for code in (0x00..0x40).filter(|code| ![0x16, 0x1A, 0x1E].contains(code)) {
+        chip.set(0x09, 0x01);
+        chip.set(COMMAND, code);
+        chip.set(FIFO_DATA, 0x01);
+        assert_eq!(chip.get(PRIMARY_STATUS) & 0xF0, 0x00, "code {code:02X}h");
+    }
+}
+
+#[test]
 fn frames_out() {
     let mut chip = chip();
     chip.set(0x22, 0x04);

@@ -289,19 +289,19 @@ static void polls(void)
     CHECK(met.count == 192);
 }
 
+static int modem_state(void) { return (ReadIO(MFRC531_REG_PRIMARY_STATUS) & MFRC531_MODEM_STATE_MASK) >> MFRC531_MODEM_STATE_SHIFT; }
+
 /* ModemState alone: the first poll finds the frame gone, and the answer's delivery ends it. */
 static void by_modem_state(void)
 {
     begin();
     answers(two_bytes, 2);
     WriteIO(MFRC531_REG_COMMAND, MFRC531_CMD_TRANSCEIVE);
-    CHECK((ReadIO(MFRC531_REG_PRIMARY_STATUS) & MFRC531_MODEM_STATE_MASK) == MFRC531_MODEM_IDLE << MFRC531_MODEM_STATE_SHIFT);
+    CHECK(modem_state() == MFRC531_MODEM_IDLE);
     WriteIO(MFRC531_REG_FIFO_DATA, 0x30);
-    CHECK((ReadIO(MFRC531_REG_PRIMARY_STATUS) & MFRC531_MODEM_STATE_MASK) == MFRC531_MODEM_AWAITING_RX << MFRC531_MODEM_STATE_SHIFT);
-    CHECK(script.frames == 1);
+    CHECK(modem_state() == MFRC531_MODEM_AWAITING_RX && script.frames == 1);
     hal_delay(100);
-    CHECK((ReadIO(MFRC531_REG_PRIMARY_STATUS) & MFRC531_MODEM_STATE_MASK) == MFRC531_MODEM_IDLE << MFRC531_MODEM_STATE_SHIFT);
-    CHECK(ReadIO(MFRC531_REG_FIFO_LENGTH) == 2);
+    CHECK(modem_state() == MFRC531_MODEM_IDLE && ReadIO(MFRC531_REG_FIFO_LENGTH) == 2);
 }
 
 /* Page by page, three address lines: the registers are polled under the addresses of their page. */

@@ -1,17 +1,15 @@
 -- Laws of a delivery: what a frame does, by what the code judges of it, and that its bytes are bytes.
 -- Assumes nothing.
 use Prim.Native.Nat.{ℕ}
-use mathlib.Core.Path.{_≡_, refl, ap, _∙_}
-use mathlib.Core.Bool.{Bool, true, false, or-true, or-false, _||_}
+use mathlib.Core.Path.{_≡_, ap, _∙_}
+use mathlib.Core.Bool.{Bool, true, false, or-true, or-false}
 use mathlib.Core.List.{List}
-use lib.Dec.{eqb}
 use Rattle.machine.specs.State.{Machine, withRxLastBits}
 use Rattle.machine.specs.Fifo.{offeredAll}
 use Rattle.machine.specs.Commands.{ended}
-use Rattle.machine.specs.Frames.{receiving, passed, crcFails, parityFails, withFrameErrors, rxStopped, received}
+use Rattle.machine.specs.Frames.{passed, crcFails, parityFails, withFrameErrors, rxStopped, received}
 use Rattle.machine.specs.Events.{delivered}
-use Rattle.state.specs.View.{Core, commandOf, raised, marked}
-use Rattle.state.proofs.StageLaws.{by-stage}
+use Rattle.state.specs.View.{raised, marked}
 use Rattle.state_fifo.specs.Alerts.{alertsOf, alertedFrom}
 use Rattle.state_fifo.proofs.AlertLaws.{alerted-from}
 use Rattle.event_frame_deliver.specs.Judged.{errorBits, frameErrors}

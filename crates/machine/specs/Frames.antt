@@ -35,6 +35,10 @@ sending c = byFrames true false false c
 abbrev pub receiving : Command → Bool
 receiving c = byFrames false true false c
 
+-- A frame waits to be taken: a command is sending, and a byte is held.
+abbrev pub frameWaits : Machine → Bool
+frameWaits m = sending (m .command) && not (eqb (length (m .held)) 0)
+
 -- A frame's checksum goes by 22h-24h of that moment (manual 8.3). With CRC8 it is one byte, else two, of which the low one is sent first.
 abbrev pub crcWidth : Machine → ℕ
 crcWidth m = cond (CRC8 (registerAt m 0x22)) 1 2

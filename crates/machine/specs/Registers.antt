@@ -11,7 +11,7 @@ use Rattle.machine.specs.State.{Machine, Interrupts, Errors, withPage, w
 use Rattle.machine.specs.Fifo.{registerAt, offered, firstOf, flushed, loAlert, hiAlert}
 use Rattle.machine.specs.Timer.{timerStarted, timerStopped}
 use Rattle.machine.specs.Commands.{codeOf, programs, commandWritten}
-use Rattle.machine.specs.Frames.{sending, receiving}
+use Rattle.machine.specs.Frames.{receiving, frameWaits}
 
 -- Manual 2.1: with UsePageSelect (Page bit 7) the low three bits of the address choose within page PageSelect; without it the address is the register.
 abbrev pub mapped : ℕ → ℕ → ℕ
@@ -50,10 +50,10 @@ errorByte e = 64 * flag (e .keyErr) + 32 * flag (e .accessErr) + 16 * flag (e .f
 abbrev pub Err : Machine → Bool
 Err m = not (eqb (errorByte (m .status .errors)) 0)
 
--- ModemState (manual 2.3), by the data sheet's codes: AwaitingRx, 110, while the command receives, whatever is held; TxData, 010, while it sends and a byte is
--- held; else Idle, 000.
+-- ModemState (manual 2.3), by the data sheet's codes: AwaitingRx, 110, while a command is receiving, whatever is held; TxData, 010, while a frame waits; else
+-- Idle, 000.
 abbrev pub modemState : Machine → ℕ
-modemState m = cond (receiving (m .command)) 6 (cond (sending (m .command) && not (eqb (length (m .held)) 0)) 2 0)
+modemState m = cond (receiving (m .command)) 6 (cond (frameWaits m) 2 0)
 
 -- PrimaryStatus (manual 2.3): ModemState is bits 6-4, IRq bit 3, Err bit 2, HiAlert bit 1 and LoAlert bit 0.
 abbrev pub primaryStatus : Machine → ℕ

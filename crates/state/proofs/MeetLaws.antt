@@ -11,7 +11,7 @@ use borrow.Author.Tests.{ltb-true, lt-ltb, le-ltb}
 use Rattle.machine.specs.WellFormed.{wellFormed, timerFormed, fifoFormed, commandFormed, nothingPends, checksumFormed, bitsFormed}
 use Rattle.machine.specs.WellFormedness.{Formed}
 use Rattle.machine.specs.Refusals.{Call, start, hostRead, hostWrite, advance, takeFrame, deliver, refusal, refuseIf, clockLimit, frameFormed, ByteCall}
-use Rattle.machine.specs.Frames.{sending, receiving}
+use Rattle.machine.specs.Frames.{sending, receiving, frameWaits}
 use Rattle.machine.specs.Events.{Outcome, accepted, bufferOf}
 use Rattle.machine.proofs.Performing.{as-accepted}
 use Rattle.machine.proofs.WellFormed.Parts.{both, each}
@@ -129,7 +129,7 @@ module _ (c : Chip) (formed : chipFormed c ≡ true) where
     pub take-short : length buffer < 66 → (chipRefusal c (takeFrame buffer) ≡ 6) × (refusal (view c) (takeFrame buffer) ≡ 6)
     take-short short = take-refusal 6 (ap (λ (t : Bool). refuseIf t 6 (refuseIf (not (sending (view c .command)) || eqb (length (view c .held)) 0) 4 0)) (lt-ltb (length buffer) 66 short))
 
-    pub take-judged : 66 ≤ length buffer → {w : Bool} → w ≡ (sending (view c .command) && not (eqb (length (view c .held)) 0)) →
+    pub take-judged : 66 ≤ length buffer → {w : Bool} → w ≡ frameWaits (view c) →
         (t : Bool) → w ≡ t → let n = refuseIf (not t) 4 0 in (chipRefusal c (takeFrame buffer) ≡ n) × (refusal (view c) (takeFrame buffer) ≡ n)
     take-judged room {w} is t e =
         take-refusal (refuseIf (not t) 4 0)

@@ -2,14 +2,11 @@
 //
 // Any memory is some chip, which refusal 7 judges. Names are the data sheet's. specs/View.antt says which machine the arrays are,
 // specs/Formed.antt when a chip is well formed, specs/Turns.antt what a function on some of the arrays promises.
-ghost use mathlib.Core.Bool.{not, _&&_};
-ghost use lib.Dec.{eqb};
-ghost use lib.ListN.{length};
 ghost use Rattle.state.specs.View.{withState, raised, marked, unmarked};
 ghost use Rattle.state.specs.Lent.{clocksState};
 ghost use Rattle.state.specs.Turns.{Turns, Reads, Counts, Holds};
 ghost use Rattle.machine.specs.Commands.{ended as Commands·ended};
-ghost use Rattle.machine.specs.Frames.{sending, receiving};
+ghost use Rattle.machine.specs.Frames.{receiving, frameWaits};
 
 // A chip. Elements that no name below stands for are kept for later fields; a start leaves them 0.
 #[repr(C)]
@@ -86,9 +83,7 @@ pub fn held(state: &[u8; 24]) -> u8
 
 // A frame waits to be taken: Transmit is active, or a Transceive that sends, and a byte is held.
 pub fn frame_waits(state: &[u8; 24]) -> bool
-    ensures { λ r.
-        let lent = withState (now (state .entry)) in
-        ⌜ Reads (λ m. sending (m .command) && not (eqb (length (m .held)) 0)) lent r ⌝ }
+    ensures { λ r. ⌜ Reads frameWaits (withState (now (state .entry))) r ⌝ }
 {
     let stage = state[STAGE];
     let sends = (stage == 0x5A) | (stage == 0x5E);

@@ -41,13 +41,13 @@
 #include <stdint.h>
 
 /* The version of this header and of the library. MINOR rises by one with each request that lands (docs/landings); 11 is the state with R-2,
- * R-6 and R-11, 12 brought R-4. With a new MINOR compile firmware again, as the chip's layout may have changed. PATCH rises with any other
+ * R-6 and R-11, 12 brought R-4, 13 R-3. With a new MINOR compile firmware again, as the chip's layout may have changed. PATCH rises with any other
  * change. MAJOR is 0 until the layout is final; from then on it rises when a name, the layout or an answer changes, so that firmware has to be
  * looked at. */
 #define MFRC531_VERSION_MAJOR 0
-#define MFRC531_VERSION_MINOR 12
+#define MFRC531_VERSION_MINOR 13
 #define MFRC531_VERSION_PATCH 0
-#define MFRC531_VERSION_STRING "0.12.0"
+#define MFRC531_VERSION_STRING "0.13.0"
 
 /* Sizes in bytes, and clocks of 13.56 MHz. */
 #define MFRC531_FIFO_SIZE 64
@@ -56,7 +56,7 @@
 #define MFRC531_PROFILE_SIZE 32
 #define MFRC531_TAKE_BUFFER_SIZE 66 /* the FIFO and a checksum of two bytes */
 #define MFRC531_CLOCKS_PER_SECOND 13560000
-#define MFRC531_MOST_CLOCKS 65535        /* of one advance */
+#define MFRC531_MOST_CLOCKS 4294967295u  /* of one advance: every number of 32 bits */
 #define MFRC531_PROGRAMMING_CLOCKS 78648 /* from the latching of bytes by WriteE2 until they are in EEPROM, 5.8 ms */
 
 #ifdef __cplusplus
@@ -75,7 +75,7 @@ enum mfrc531_refusal {
     MFRC531_NOT_REFUSED = 0,
     MFRC531_ADDRESS_ABOVE_63 = 1,
     MFRC531_IMAGE_NOT_512_BYTES = 2,
-    MFRC531_OVER_65535_CLOCKS = 3,
+    MFRC531_RESERVED_3 = 3, /* no call is refused with it */
     MFRC531_NOT_SENDING_OR_RECEIVING = 4,
     MFRC531_FRAME_MALFORMED = 5,
     MFRC531_BUFFER_UNDER_66_BYTES = 6,
@@ -100,7 +100,7 @@ static inline const char *mfrc531_refusal_text(unsigned number)
     case MFRC531_NOT_REFUSED: return "not refused";
     case MFRC531_ADDRESS_ABOVE_63: return "the host address is above 63";
     case MFRC531_IMAGE_NOT_512_BYTES: return "the image is not 512 bytes";
-    case MFRC531_OVER_65535_CLOCKS: return "more than 65,535 clocks were asked";
+    case MFRC531_RESERVED_3: return "reserved: no call is refused with it";
     case MFRC531_NOT_SENDING_OR_RECEIVING: return "the chip does not send, holds no byte, or does not receive";
     case MFRC531_FRAME_MALFORMED: return "the received frame is malformed";
     case MFRC531_BUFFER_UNDER_66_BYTES: return "the buffer is under 66 bytes";
@@ -427,8 +427,9 @@ mfrc531_answer mfrc531_read(mfrc531_chip *chip, uint8_t address);
  * Refuses: 7 the chip is malformed; 1 the address is above 63. */
 mfrc531_answer mfrc531_write(mfrc531_chip *chip, uint8_t address, uint8_t byte);
 
-/* An advance by clocks of 13.56 MHz, for the timer and the EEPROM programming: the only call in which time passes. n clocks are n times one clock.
- * Refuses: 7 the chip is malformed; 3 more than 65,535 clocks. */
+/* An advance by clocks of 13.56 MHz, for the timer and the EEPROM programming: the only call in which time passes. n clocks are n times one clock, and
+ * cost no more than one does, but for the programmings that end, of which there are at most six.
+ * Refuses: 7 the chip is malformed. */
 mfrc531_answer mfrc531_advance(mfrc531_chip *chip, uint32_t clocks);
 
 /* A take of the frame that the chip sends, into a buffer; later bytes of the buffer stay. Value: the number of bytes written, at most 66. Last

@@ -11,8 +11,6 @@ pub enum Refusal {
     AddressAbove63,
     /// 2: the image is not 512 bytes.
     ImageNot512Bytes,
-    /// 3: more than 65,535 clocks were asked.
-    Over65535Clocks,
     /// 4: a take while the chip does not send or holds no byte, or a delivery while it does not receive.
     NotSendingOrReceiving,
     /// 5: a delivery of no byte or of more than 64, with another number of parity values, a parity value above 1, or last bits above 7.
@@ -23,7 +21,7 @@ pub enum Refusal {
     ChipMalformed,
     /// 8: neither profile passes.
     BothProfilesFail,
-    /// A number that this crate has no name for: the library is newer than the crate.
+    /// A number that this crate has no name for: the library is newer than the crate. 3 is reserved, and no call is refused with it.
     Other(u8),
 }
 
@@ -33,7 +31,6 @@ impl Refusal {
         match self {
             Refusal::AddressAbove63 => 1,
             Refusal::ImageNot512Bytes => 2,
-            Refusal::Over65535Clocks => 3,
             Refusal::NotSendingOrReceiving => 4,
             Refusal::FrameMalformed => 5,
             Refusal::BufferUnder66Bytes => 6,
@@ -47,7 +44,6 @@ impl Refusal {
         match number {
             1 => Refusal::AddressAbove63,
             2 => Refusal::ImageNot512Bytes,
-            3 => Refusal::Over65535Clocks,
             4 => Refusal::NotSendingOrReceiving,
             5 => Refusal::FrameMalformed,
             6 => Refusal::BufferUnder66Bytes,
@@ -63,7 +59,6 @@ impl fmt::Display for Refusal {
         let why = match self {
             Refusal::AddressAbove63 => "the host address is above 63",
             Refusal::ImageNot512Bytes => "the image is not 512 bytes",
-            Refusal::Over65535Clocks => "more than 65,535 clocks were asked",
             Refusal::NotSendingOrReceiving => "the chip does not send, holds no byte, or does not receive",
             Refusal::FrameMalformed => "the received frame is malformed",
             Refusal::BufferUnder66Bytes => "the buffer is under 66 bytes",
@@ -118,10 +113,10 @@ mod tests {
         for number in 1..=255 {
             let refusal = Answer(number).done().unwrap_err();
             assert_eq!(u32::from(refusal.number()), number);
-            assert_eq!(refusal == Refusal::Other(refusal.number()), number > 8);
+            assert_eq!(refusal == Refusal::Other(refusal.number()), number > 8 || number == 3);
         }
         assert_eq!(Refusal::of(200).to_string(), "refused (200): a refusal that this crate does not know");
-        assert_eq!(Refusal::of(3).to_string(), "refused (3): more than 65,535 clocks were asked");
+        assert_eq!(Refusal::of(2).to_string(), "refused (2): the image is not 512 bytes");
     }
 
     #[test]

@@ -125,8 +125,20 @@ impl Chip {
         Answer(unsafe { mfrc531_write(&mut self.memory, address, byte) }).done()
     }
 
-    /// Lets so many clocks of 13.56 MHz pass, for the timer and the EEPROM programming; more than 65,535 are refused with
-    /// [`Refusal::Over65535Clocks`].
+    /// Lets so many clocks of 13.56 MHz pass, for the timer and the EEPROM programming. Any number is taken, and costs no more than one clock does, but for
+    /// the programmings that end, of which there are at most six.
+    ///
+    /// ```
+    /// # use mfrc531::*;
+    /// # let mut chip = Chip::start(&shipped_image()).unwrap();
+    /// chip.write(Register::Page, 0x00)?;
+    /// chip.write(Register::TimerReload, 3)?;
+    /// chip.write(Register::TimerClock, 0x21)?; // TAutoRestart, and two clocks a step
+    /// chip.write(Register::Control, 0x02)?; // TStartNow
+    /// chip.advance(u32::MAX)?;
+    /// assert_eq!(chip.read(Register::TimerValue), Ok(2));
+    /// # Ok::<(), Refusal>(())
+    /// ```
     pub fn advance(&mut self, clocks: u32) -> Result<(), Refusal> {
         // Safety: the chip is lent for the call alone.
         Answer(unsafe { mfrc531_advance(&mut self.memory, clocks) }).done()

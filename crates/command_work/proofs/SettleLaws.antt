@@ -10,14 +10,10 @@ use borrow.Author.Tests.{eq-eqb, ne-eqb, lt-leb, le-leb}
 use Rattle.machine.specs.State.{Machine, Command, WriteE2, CalcCRC, addressing, ready, withCommand}
 use Rattle.machine.specs.Memory.{addressOf}
 use Rattle.machine.specs.Commands.{raisedTx, ended, enough, argument, taken, checksumTaken, latched, writeStepped, steppedAs, stepped, settled}
-use Rattle.machine.proofs.Cases.{by-cond, either}
+use Rattle.machine.proofs.Cases.{by-cond}
+use Rattle.machine.proofs.Settling.{settled-by}
 use Rattle.state.specs.View.{Core, commandOf}
 use Rattle.state.proofs.StageLaws.{by-stage}
-
--- One step is all where a further one changes nothing.
-settled-by : (m : Machine) (d : Command) → m .command ≡ d → stepped (steppedAs d m) ≡ steppedAs d m → steppedAs d m ≡ settled m
-unfolding settled stepped
-settled-by m d is again = sym (ap (λ (c : Command). stepped (steppedAs c m)) is ∙ again)
 
 -- A step that does nothing.
 pub settled-rests : (m : Machine) → m ≡ steppedAs (m .command) m → m ≡ settled m
@@ -40,14 +36,6 @@ settled-sums m is = settled-by m CalcCRC is (by-cond (λ x. stepped x ≡ x) (en
   where
     first : stepped m ≡ steppedAs CalcCRC m
     first = ap (λ (c : Command). steppedAs c m) is
-
--- WriteE2 with its address: it then is over, programs or waits for a byte, and a further step changes nothing.
-pub settled-writes : (m : Machine) (a : ℕ) → m .command ≡ WriteE2 (ready a) → writeStepped (ready a) m ≡ settled m
-unfolding stepped
-settled-writes m a is =
-    settled-by m (WriteE2 (ready a)) is
-    (by-cond (λ x. stepped x ≡ x) (enough 1 m) (latched a m) m (λ e. either (λ x. stepped x ≡ x) (ltb a 0x10) _ _ refl refl)
-    (λ e. ap (λ (c : Command). steppedAs c m) is ∙ ap (λ (t : Bool). cond t (latched a m) m) e))
 
 -- WriteE2 without its address, which waits for two bytes, or takes them and goes on.
 module _ (m : Machine) (is : m .command ≡ WriteE2 addressing) where

@@ -1,4 +1,4 @@
--- Laws of the bytes that a programming stores, and of what a clock does to it.
+-- Laws of a programming in the arrays: the bytes that it stores, its end, and its count of clocks.
 -- Assumes nothing.
 use Prim.Native.Nat.{ℕ, zero, suc, _+_, _-_, _%_, _<_, _≤_}
 use native.Mathlib.Omega.{arith}
@@ -9,12 +9,12 @@ use lib.Dec.{ltb, leb, eqb}
 use lib.ListN.{length, getD, set, take, length-set}
 use lib.Seq.{take-suc, length-take-le}
 use borrow.Author.Tests.{eq-eqb, ne-eqb, lt-ltb, leb-true, le-leb, lt-leb}
-use Rattle.machine.specs.State.{Machine, Command, WriteE2, ready, programming, withCommand, withEeprom}
+use Rattle.machine.specs.State.{Machine, Command, WriteE2, ready, programming, whileProgramming, withCommand, withEeprom}
 use Rattle.machine.specs.Memory.{storedFrom}
-use Rattle.machine.specs.Commands.{raisedTx, writeStepped}
-use Rattle.machine.specs.WellFormedness.{Formed}
-use Rattle.machine.specs.Events.{batchStored, programmed, commandClocked, clock, clocks}
-use Rattle.machine.proofs.WellFormed.Parts.{Good, good-formed, both, each}
+use Rattle.machine.specs.Commands.{programs, raisedTx, writeStepped}
+use Rattle.machine.specs.Events.{batchStored, programmed}
+use Rattle.machine.proofs.WellFormed.Parts.{both, each}
+use Rattle.machine.proofs.Settling.{settled-writes}
 use Rattle.state.specs.View.{Core, at, batchStart, commandOf, core, coreBy, view, viewOf, withClocks}
 use Rattle.state.specs.Lent.{clocksNumbersStateSlotsLatchEeprom}
 use Rattle.state.specs.Formed.{listed, writes, batchFits, agree, fieldsFormed}
@@ -23,8 +23,7 @@ use Rattle.state.specs.declared.Chip.{Chip}
 use Rattle.state.proofs.StageLaws.{by-stage}
 use Rattle.state.proofs.StoreLaws.{put, at-set, at-set-two, stored, stage-agrees, next-near, bytes-agree}
 use Rattle.state.proofs.TurnLaws.{sized-clocks, sized-state, sized-eeprom}
-use Rattle.command_work.proofs.SettleLaws.{settled-writes}
-use Rattle.event_clock_advance.specs.Clock.{storedWrapped}
+use Rattle.event_clock_advance.specs.Clock.{storedWrapped, leftWith}
 
 -- The next byte behind those stored.
 store-next : (bs eeprom : List ℕ) (a b : ℕ) → storedFrom eeprom a (bs ++ b ∷ []) ≡ set (storedFrom eeprom a bs) (a + length bs) b
@@ -125,40 +124,22 @@ module _ (k : Core) (latch : List ℕ) where
       go false true first second either-is = rw (first, second, ne-eqb (k .left) 0 some) refl
       go false false first second either-is = absurd (true≢false (sym either-is))
 
-  -- A clock without a programming.
-  pub clock-rests : (m : Machine) → k .left ≡ 0 → m ≡ commandClocked (commandOf k latch) m
-  clock-rests m none =
-      by-stage (λ s c. m ≡ commandClocked c m) k latch (rw (eq-eqb (k .left) 0 none) refl) (rw (eq-eqb (k .left) 0 none) refl) refl refl refl refl refl refl refl refl refl (λ o. refl)
+  -- With no clocks left nothing is programmed.
+  pub is-idle : k .left ≡ 0 → programs (commandOf k latch) ≡ false
+  is-idle none =
+      by-stage (λ s c. programs c ≡ false) k latch (rw (eq-eqb (k .left) 0 none) refl) (rw (eq-eqb (k .left) 0 none) refl) refl refl refl refl refl refl refl refl refl (λ o. refl)
 
--- A clock of a programming that goes on, and of one that ends.
-module _ (a : ℕ) (bs : List ℕ) (left : ℕ) (m : Machine) (is : m .command ≡ WriteE2 (programming a bs left)) where
-  pub clock-falls : 1 < left → withCommand (WriteE2 (programming a bs (left - 1))) m ≡ commandClocked (m .command) m
-  clock-falls above = sym (ap (λ (d : Command). commandClocked d m) is ∙ ap (λ (t : Bool). cond t (programmed a bs m) (withCommand (WriteE2 (programming a bs (left - 1))) m)) (lt-leb left 1 above))
-
-  pub clock-ends : left ≤ 1 → programmed a bs m ≡ commandClocked (m .command) m
-  clock-ends last = sym (ap (λ (d : Command). commandClocked d m) is ∙ ap (λ (t : Bool). cond t (programmed a bs m) (withCommand (WriteE2 (programming a bs (left - 1))) m)) (le-leb left 1 last))
-
--- What a clock leaves is well formed again, so that the next clock finds a well-formed machine.
-pub formed-by : {x m : Machine} → x ≡ m → Good m → Formed x
-formed-by {x} is good = good-formed x (subst Good (sym is) good)
-
--- A clock after i clocks is one more.
-pub clock-after : (i : ℕ) (m : Machine) → clock (clocks i m) ≡ clocks (i + 1) m
-unfolding clocks
-clock-after zero m = refl
-clock-after (suc i) m = let same : suc (i + 1) ≡ suc i + 1 = omega arith in clock-after i (clock m) ∙ ap (λ (n : ℕ). clocks n m) same
-
--- One clock less is left.
-pub falls-turns : (c : Chip) → Sizes c → fieldsFormed c ≡ true → 1 < core c .left → Turned (λ m. commandClocked (m .command) m) c (withClocks (set (c .clocks) 1 (core c .left - 1)) c)
+-- A programming goes on with so many clocks left.
+pub left-turns : (c : Chip) (n : ℕ) → Sizes c → fieldsFormed c ≡ true → (core c .left ≡ 0 → ⊥) → 1 ≤ n → Turned (leftWith n) c (withClocks (set (c .clocks) 1 n) c)
 unfolding viewOf
-falls-turns c sizes formed above =
+left-turns c n sizes formed some more =
     let k = core c in
-    let (writing, fits) = programs-here c formed (omega arith) in
-    let next = withClocks (set (c .clocks) 1 (k .left - 1)) c in
-    let fallen = coreBy (put 1 (k .left - 1) (at (c .clocks))) (at (c .numbers)) (at (c .state)) in
-    stored next (at-set (c .clocks) 1 (k .left - 1) (omega (arith, sizes .clock-count))) refl refl (λ m. commandClocked (m .command) m) c
-    (sized-clocks sizes (set (c .clocks) 1 (k .left - 1)) (length-set (c .clocks) 1 (k .left - 1) ∙ sizes .clock-count))
-    (ap (λ (d : Command). withCommand d (view c)) (is-programming fallen (c .latch) writing (omega arith))
-    ∙ clock-falls (batchStart (k .next) (k .latched)) (take (k .latched) (c .latch)) (k .left) (view c) (is-programming k (c .latch) writing (omega arith)) above)
+    let (writing, fits) = programs-here c formed some in
+    let next = withClocks (set (c .clocks) 1 n) c in
+    let counted = coreBy (put 1 n (at (c .clocks))) (at (c .numbers)) (at (c .state)) in
+    stored next (at-set (c .clocks) 1 n (omega (arith, sizes .clock-count))) refl refl (leftWith n) c
+    (sized-clocks sizes (set (c .clocks) 1 n) (length-set (c .clocks) 1 n ∙ sizes .clock-count))
+    (ap (λ (d : Command). withCommand d (view c)) (is-programming counted (c .latch) writing (omega arith))
+    ∙ sym (ap (λ (d : Command). whileProgramming (λ a bs left. withCommand (WriteE2 (programming a bs n)) (view c)) (view c) d) (is-programming k (c .latch) writing some)))
     (λ h. both (both (each (listed (k .stage)) _ (stage-agrees c h) .0)
-    (both (ap (λ (t : Bool). agree t (writes (k .stage) && batchFits (k .next) (k .latched))) (lt-ltb 0 (k .left - 1) (omega arith)) ∙ both writing fits) (next-near c h))) (bytes-agree c h))
+    (both (ap (λ (t : Bool). agree t (writes (k .stage) && batchFits (k .next) (k .latched))) (lt-ltb 0 n (omega arith)) ∙ both writing fits) (next-near c h))) (bytes-agree c h))

@@ -1,2 +1,3 @@
 pub mod TimerLaws
 pub mod BatchLaws
+pub mod ClockLaws

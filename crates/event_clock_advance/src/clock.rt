@@ -1,33 +1,24 @@
-// Clocks (manual 9.7): each is one of the timer and one of the programming.
-ghost use Rattle.machine.specs.Events.{clock, clocks as Events·clocks, advanced as Events·advanced};
+// Any number of clocks (manual 9.7), by what happens in them: a step, or many, of the timer, and the ends of programmings, of which there are at most six.
+ghost use Prim.Native.Nat.{_≤_};
+ghost use mathlib.Core.Bool.{not, _&&_};
+ghost use mathlib.Core.Path.{_≡_};
+ghost use lib.Dec.{eqb, leb};
+ghost use Rattle.machine.specs.Events.{clocks as Events·clocks, advanced as Events·advanced};
 ghost use Rattle.event_clock_advance.specs.Clock.{clockedIn, TurnsFormed};
-use crate::programming::command_clocked;
+use crate::programming::programmed;
 use crate::timer::timer_clocked;
+use state::LEFT;
 use state_fifo::alerted;
 use state_fifo::alerts_of;
 
-// One clock.
-fn clocked(
-    clocks: &mut [u32; 2],
-    numbers: &mut [u16; 6],
-    state: &mut [u8; 24],
-    registers: &[u8; 32],
-    slots: &[u8; 64],
-    latch: &mut [u8; 16],
-    eeprom: &mut [u8; 512],
-)
-    ensures { λ r.
-        let before = clockedIn (now (clocks .entry)) (now (numbers .entry)) (now (state .entry)) (now (registers .entry))
-        (now (slots .entry)) (now (latch .entry)) (now (eeprom .entry)) in
-        let after = clockedIn (now (clocks .exit)) (now (numbers .exit)) (now (state .exit)) (now (registers .entry))
-        (now (slots .entry)) (now (latch .exit)) (now (eeprom .exit)) in
-        ⌜ TurnsFormed clock before after ⌝ }
+// A programming with so many clocks left ends within so many.
+fn ends_within(left: u32, rest: u32) -> bool
+    ensures { λ r. ⌜ r ≡ (not (eqb left 0) && leb left rest) ⌝ }
 {
-    timer_clocked(clocks, state, registers);
-    command_clocked(clocks, numbers, state, slots, latch, eeprom);
+    (left != 0) & (left <= rest)
 }
 
-// So many clocks, one after the other.
+// So many clocks. They are split here and nowhere else: at the end of each programming, of which the next one begins where bytes wait.
 fn clocked_times(
     clocks: &mut [u32; 2],
     numbers: &mut [u16; 6],
@@ -45,11 +36,19 @@ fn clocked_times(
         (now (slots .entry)) (now (latch .exit)) (now (eeprom .exit)) in
         ⌜ TurnsFormed (Events·clocks by) before after ⌝ }
 {
-    let mut i: u32 = 0;
-    while i < by {
-        clocked(clocks, numbers, state, registers, slots, latch, eeprom);
-        i += 1;
+    let mut rest = by;
+    let mut left = clocks[LEFT];
+    while ends_within(left, rest) {
+        timer_clocked(clocks, state, registers, left);
+        programmed(clocks, numbers, state, slots, latch, eeprom);
+        rest -= left;
+        left = clocks[LEFT];
     }
+    timer_clocked(clocks, state, registers, rest);
+    if left == 0 {
+        return;
+    }
+    clocks[LEFT] = left - rest;
 }
 
 // So many clocks, with the alerts judged over them all.

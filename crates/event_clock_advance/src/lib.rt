@@ -10,7 +10,7 @@ mod clock;
 mod programming;
 mod timer;
 
-// An advance by clocks: each clocks the timer and the programming of WriteE2, and the alerts are judged over them all.
+// An advance by any number of clocks: they reach the timer and the programming of WriteE2, and the alerts are judged over them all.
 pub fn advance<'a>(
     clocks: &'a mut [u32; 2],
     numbers: &'a mut [u16; 6],
@@ -33,9 +33,6 @@ pub fn advance<'a>(
         if !formed(clocks, numbers, state) {
             return 7;
         }
-    }
-    if by > 65_535 {
-        return 3;
     }
     clock::advanced(clocks, numbers, state, registers, slots, latch, eeprom, by);
     0

@@ -1,10 +1,8 @@
-// One clock of the programming that WriteE2 has started (manual 6.3).
-ghost use mathlib.Core.Bool.{true};
+// The end of a programming that WriteE2 has started (manual 6.3).
 ghost use mathlib.Core.Path.{_≡_};
 ghost use Rattle.state.specs.View.{at};
-ghost use Rattle.state.specs.Formed.{batchFits};
 ghost use Rattle.state.specs.Lent.{clocksNumbersStateSlotsLatchEeprom};
-ghost use Rattle.event_clock_advance.specs.Clock.{storedWrapped, ends, clocksCommand, TurnsFormed};
+ghost use Rattle.event_clock_advance.specs.Clock.{storedWrapped, ended, TurnsAgreeing};
 use command_write_e2::batch_start;
 use command_write_e2::bytes_latched;
 use state::LATCHED;
@@ -32,7 +30,7 @@ fn store_batch(eeprom: &mut [u8; 512], latch: &[u8; 16], address: u16, count: u8
 }
 
 // A programming ends: its bytes are stored, and the next byte goes behind them. TxIRq is set where no byte is held; else WriteE2 goes on with those that are.
-fn programmed(
+pub fn programmed(
     clocks: &mut [u32; 2],
     numbers: &mut [u16; 6],
     state: &mut [u8; 24],
@@ -45,9 +43,7 @@ fn programmed(
         (now (slots .entry)) (now (latch .entry)) (now (eeprom .entry)) in
         let after = clocksNumbersStateSlotsLatchEeprom (now (clocks .exit)) (now (numbers .exit)) (now (state .exit))
         (now (slots .entry)) (now (latch .exit)) (now (eeprom .exit)) in
-        let next = at (now (numbers .entry)) 1 in
-        let latched = at (now (state .entry)) 10 in
-        ⌜ (batchFits next latched ≡ true → TurnsFormed (ends next latched (now (latch .entry))) before after) ⌝ }
+        ⌜ ((at (now (clocks .entry)) 1 ≡ 0 → ⊥) → TurnsAgreeing ended before after) ⌝ }
 {
     let latched = state[LATCHED];
     let waiting = held(state);
@@ -60,31 +56,4 @@ fn programmed(
         return;
     }
     bytes_latched(clocks, numbers, state, slots, latch);
-}
-
-// One clock of the active command: the clocks left of a programming fall by one, and the last one ends it.
-pub fn command_clocked(
-    clocks: &mut [u32; 2],
-    numbers: &mut [u16; 6],
-    state: &mut [u8; 24],
-    slots: &[u8; 64],
-    latch: &mut [u8; 16],
-    eeprom: &mut [u8; 512],
-)
-    ensures { λ r.
-        let before = clocksNumbersStateSlotsLatchEeprom (now (clocks .entry)) (now (numbers .entry)) (now (state .entry))
-        (now (slots .entry)) (now (latch .entry)) (now (eeprom .entry)) in
-        let after = clocksNumbersStateSlotsLatchEeprom (now (clocks .exit)) (now (numbers .exit)) (now (state .exit))
-        (now (slots .entry)) (now (latch .exit)) (now (eeprom .exit)) in
-        ⌜ TurnsFormed clocksCommand before after ⌝ }
-{
-    let left = clocks[LEFT];
-    if left == 0 {
-        return;
-    }
-    if left > 1 {
-        clocks[LEFT] = left - 1;
-        return;
-    }
-    programmed(clocks, numbers, state, slots, latch, eeprom);
 }

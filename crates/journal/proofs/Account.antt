@@ -15,7 +15,7 @@ use Rattle.machine.specs.Commands.{codeOf, programs, ended, raisedTx}
 use Rattle.machine.specs.Frames.{sending, receiving, txBegun, txEnded, afterSending, sent, received, passed}
 use Rattle.machine.specs.Registers.{mapped}
 use Rattle.machine.specs.WellFormed.{wellFormed, commandFormed}
-use Rattle.machine.specs.Refusals.{Call, start, hostRead, hostWrite, advance, takeFrame, deliver, refusal, clockLimit, frameFormed}
+use Rattle.machine.specs.Refusals.{Call, start, hostRead, hostWrite, advance, takeFrame, deliver, refusal, frameFormed}
 use Rattle.machine.specs.Events.{Outcome, Answer, byte, refused, bufferOf, accepted, perform, started, written, afterRead, advanced, taken, delivered, clocks}
 use Rattle.machine.proofs.Performing.{as-accepted, passed-test, not-false}
 use Rattle.machine.proofs.Cases.{while-programming}
@@ -29,9 +29,9 @@ use Rattle.journal.proofs.Adding.{none-of, offers-add}
 use Rattle.journal.proofs.Agreement.{AgreesWith, PlaceIs, memoryOf, stored-parts}
 use Rattle.journal.proofs.Calls.{idle-latch, receiving-latch}
 use Rattle.journal.proofs.Run.{or-first, call-agrees, run-agrees}
-use Rattle.journal.proofs.Programming.{pending}
-use Rattle.journal.proofs.Demand.{command-formed, clocks-left, next-call}
-use Rattle.journal.proofs.Entered.{Inside, inside-none, Apart, apart-inside, moved, Enters, written-enters, plain-clocks, pending-clocks, finish-enters}
+use Rattle.journal.proofs.Demand.{next-call}
+use Rattle.journal.proofs.Clocks.{clocks-enter}
+use Rattle.journal.proofs.Entered.{Inside, inside-none, Apart, apart-inside, moved, Enters, written-enters}
 
 none-some : {A X : Type 0} {x : A} {xs : List A} → _≡_ {A = List A} [] (x ∷ xs) → X
 none-some {xs = xs} h = absurd (let z : _≡_ {A = ℕ} 0 (suc (length xs)) = ap length h in omega arith)
@@ -78,17 +78,6 @@ stored-since image m n j k xs ended a b is none order =
     ∙ stored-parts image F ended (memoryOf image j .image)
     ∙ ap (λ (z : List ℕ). storedBytes z ended) (sym (a .same-memory .stored))
 
--- Bytes that stand at an address and behind it are at their addresses.
-stand-at : (bs cells : List ℕ) (s : ℕ) → s + length bs ≤ length cells → ((i : ℕ) → i < length bs → getD cells (s + i) 0 ≡ getD bs i 0) → AtAddresses cells (batch s bs)
-unfolding AtAddresses batch
-stand-at [] cells s fits h = tt
-stand-at (b ∷ bs) cells s fits h =
-    let here : s ≡ s + 0 = omega arith in (
-      omega arith,
-      ap (λ (k : ℕ). getD cells k 0) here ∙ h 0 (omega arith),
-      stand-at bs cells (s + 1) (omega arith) (λ i l. let next : s + 1 + i ≡ s + suc i = omega arith in ap (λ (k : ℕ). getD cells k 0) next ∙ h (suc i) (omega arith)),
-    )
-
 -- What is found in entries that all held bytes leave by.
 map-none : {X : Type 0} (f : Entry → List X) (x : ℕ → Entry) → ((b : ℕ) → f (x b) ≡ []) → (h : List ℕ) → collect f (map x h) ≡ []
 unfolding collect
@@ -111,14 +100,6 @@ isRead (hostWrite address v) = false
 isRead (advance n) = false
 isRead (takeFrame buffer) = false
 isRead (deliver bytes parities lastBits) = false
-
--- A programming, or none.
-data Kind (c : Command) : Type 0 where
-  still : programs c ≡ false → Kind c
-  under : (s : ℕ) (bs : List ℕ) (left : ℕ) → c ≡ WriteE2 (programming s bs left) → Kind c
-
-kind : (c : Command) → Kind c
-kind c = while-programming (λ (t : Bool). programs c ≡ t → Kind c) (λ s bs left. true) false c (λ s bs left is p. under s bs left is) (λ p. still p) refl
 
 -- No byte waits for memory while the chip sends.
 sending-latch : (c : Command) → sending c ≡ true → waiting c ≡ []
@@ -250,41 +231,13 @@ module _ (image : List ℕ) (m : Machine) (j : Journal) (a : AgreesWith image m 
       inside-parts (hostWrite address v) (written address v m) _ (l .entries) (l .appended) (l .inside) (λ n is. no-refusal (hostWrite address v) n ok is) (no-read (hostWrite address v) refl)
       (entered-ends (written address v m) (enterAccepted (hostWrite address v) m j) (record { entries = l .entries; appended = l .appended; inside = l .inside; waits = l .waits }))
 
-  -- An advance: a programming ends in it, or none does.
-  advance-parts : (n : ℕ) → refusal m (advance n) ≡ 0 → NextCall before → Parts (advance n) (advanced n m) (enterClocks n m j)
-  unfolding advanced alerted refusal AtAddresses collect
-  advance-parts n ok next = go (kind (m .command))
-    where
-      quiet : enterClocks n m j ≡ j → waiting (clocks n m .command) ≡ waiting (m .command) → Parts (advance n) (advanced n m) (enterClocks n m j)
-      quiet stays same =
-          inside-parts (advance n) (advanced n m) (enterClocks n m j) [] (ap (λ (k : Journal). k .entries) stays ∙ sym (append-nil (j .entries))) inside-none (λ k z. refl) (no-read (advance n) refl)
-          (same-waiting [] (advanced n m) refl (sym same))
-
-      programs-on : (s : ℕ) (bs : List ℕ) (left : ℕ) → m .command ≡ WriteE2 (programming s bs left) → (t : Bool) → leb left n ≡ t → Parts (advance n) (advanced n m) (enterClocks n m j)
-      programs-on s bs left is true e =
-          let tests = passed-test (not (wellFormed m)) 6 _ ok in
-          let limit = ltb-false clockLimit n (passed-test (ltb clockLimit n) 2 0 (tests .1) .0) in
-          let well = not-false (wellFormed m) (tests .0) in
-          let some = clocks-left s left bs (sym (ap commandFormed is) ∙ command-formed m well) in
-          let within = leb-true left n e in
-          let l = finish-enters image n m j s left bs is a some within (omega arith) in
-          let place = subst (λ (c : Command). PlaceIs c (j .base) (j .count)) is (a .same-place) in
-          let same = as-accepted m (advance n) ok in
-          let size : length (advanced n m .eeprom) ≡ 512 = sym (ap (λ (o : Outcome). length (o .next .eeprom)) same) ∙ call-agrees image (advance n) m j a .whole in
-          inside-parts (advance n) (advanced n m) (enterClocks n m j) (l .entries) (l .appended) (l .inside) (λ k z. no-refusal (advance n) k ok z) (no-read (advance n) refl)
-          (record {
-            ended = batch s bs;
-            in-order = ap (λ (c : Command). waiting c ++ collect memoryBytes (l .entries)) is ∙ ap (λ (z : List Byte). batch s bs ++ z) (l .waits);
-            at-addresses =
-                stand-at bs (advanced n m .eeprom) s (omega (arith, place .0, place .1, size))
-                (λ i h. sym (ap (λ (o : Outcome). getD (o .next .eeprom) (s + i) 0) same) ∙ next .programmed-bytes-stand n s left bs is ok within i h);
-          })
-      programs-on s bs left is false e =
-          quiet (pending-clocks image n m j s left bs is (leb-false left n e)) (ap waiting (pending n m s left bs is (leb-false left n e) .0) ∙ sym (ap waiting is))
-
-      go : Kind (m .command) → Parts (advance n) (advanced n m) (enterClocks n m j)
-      go (still p) = let (stays, none) = plain-clocks image n m j p in quiet stays (none ∙ sym (idle-latch (m .command) p))
-      go (under s bs left is) = programs-on s bs left is (leb left n) refl
+  -- An advance.
+  advance-parts : (n : ℕ) → refusal m (advance n) ≡ 0 → Parts (advance n) (advanced n m) (enterClocks n m j)
+  unfolding advanced alerted
+  advance-parts n ok =
+      let l = clocks-enter image n m j a in
+      inside-parts (advance n) (advanced n m) (enterClocks n m j) (l .entries) (l .appended) (l .inside) (λ k z. no-refusal (advance n) k ok z) (no-read (advance n) refl)
+      (record { ended = l .ended; in-order = l .in-order; at-addresses = l .at-addresses })
 
   -- A take.
   take-parts : (buffer : List ℕ) → refusal m (takeFrame buffer) ≡ 0 → NextCall before → Parts (takeFrame buffer) (taken m) (leaveAll (e.left e.frame) e.tookFrame j)
@@ -323,7 +276,7 @@ module _ (image : List ℕ) (m : Machine) (j : Journal) (a : AgreesWith image m 
   accepted-parts (start image′) ok next = start-parts image′ ok
   accepted-parts (hostRead address) ok next = read-parts address ok next
   accepted-parts (hostWrite address v) ok next = write-parts address v ok
-  accepted-parts (advance n) ok next = advance-parts n ok next
+  accepted-parts (advance n) ok next = advance-parts n ok
   accepted-parts (takeFrame buffer) ok next = take-parts buffer ok next
   accepted-parts (deliver bytes parities lastBits) ok next = deliver-parts bytes parities lastBits ok
 

@@ -27,7 +27,7 @@ use Rattle.machine.specs.Frames.{sending, receiving, sent, received, afterSendi
 use Rattle.machine.specs.Timer.{TStartTxBegin, TStartTxEnd, TStopRx}
 use Rattle.journal.proofs.Agreement.{leave-held, Agrees, AgreesWith, PlaceIs, KeyClear, quietly, offered-agrees, offers-agree, programmed-agrees, commanded}
 use Rattle.journal.proofs.Steps.{offered-idle, settle-agrees}
-use Rattle.journal.proofs.Timer.{timer-any, timer-command}
+use Rattle.machine.proofs.Clock.{timer-any, timer-command}
 
 -- A command that does not program has no latched bytes.
 pub idle-latch : (c : Command) → programs c ≡ false → waiting c ≡ []

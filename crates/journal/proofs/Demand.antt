@@ -17,10 +17,10 @@ use Rattle.machine.specs.Memory.{storedFrom, programmingClocks}
 use Rattle.machine.specs.Frames.{frameSent, crcBytes}
 use Rattle.machine.specs.Registers.{mapped, registerRead, crcResult}
 use Rattle.machine.specs.WellFormed.{wellFormed, fifoFormed, timerFormed, commandFormed}
-use Rattle.machine.specs.Refusals.{Call, start, hostRead, hostWrite, advance, takeFrame, deliver, refusal, clockLimit}
+use Rattle.machine.specs.Refusals.{Call, start, hostRead, hostWrite, advance, takeFrame, deliver, refusal}
 use Rattle.machine.specs.Events.{Outcome, Answer, accepted, perform, refused, bufferOf, written, readByte, afterRead, advanced, taken, delivered, bufferTaken, byte, clocks}
 use Rattle.machine.proofs.Performing.{as-accepted, passed-test, not-false}
-use Rattle.machine.proofs.WellFormed.Parts.{each}
+use Rattle.machine.proofs.WellFormed.Parts.{some-left}
 use Rattle.journal.specs.Entries as e
 use Rattle.journal.specs.Entries.{collect, keyBytes}
 use Rattle.journal.specs.Journal.{Journal, enterAccepted, enter, leaveFrom, leave, Both}
@@ -29,18 +29,7 @@ use Rattle.journal.proofs.Agreement.{Agrees, AgreesWith, PlaceIs}
 use Rattle.journal.proofs.Run.{run-agrees, conserved}
 use Rattle.journal.proofs.Keys.{NoKey, moved, Judged, nothing, twelve, KeyCall, key-none, clocks-keyless, written-keys}
 use Rattle.journal.proofs.Adding.{adds-none, leave-adds, all-adds, offers-add}
-use Rattle.journal.proofs.Programming.{stored-at, pending, finishes}
-
-pub command-formed : (m : Machine) → wellFormed m ≡ true → commandFormed (m .command) ≡ true
-unfolding wellFormed
-command-formed m h =
-    let (fifo, h₁) = each (fifoFormed (m .held)) _ h in
-    let (timed, h₂) = each (timerFormed (m .timer)) _ h₁ in each (commandFormed (m .command)) _ h₂ .0
-
--- A programming of a well-formed machine has a clock left.
-pub clocks-left : (s left : ℕ) (bs : List ℕ) → commandFormed (WriteE2 (programming s bs left)) ≡ true → 1 ≤ left
-clocks-left s left bs h =
-    leb-true 1 left (each (leb 1 left) _ h .0)
+use Rattle.journal.proofs.Programming.{pending, finishes}
 
 module _ (image : List ℕ) where
   -- Every call enters no key byte, or twelve that are judged.
@@ -126,14 +115,13 @@ module _ (image : List ℕ) where
         (i : ℕ) → i < length bs → getD (perform m (advance n) .next .eeprom) (s + i) 0 ≡ getD bs i 0
     unfolding refusal advanced alerted
     programmed-bytes-stand n s left bs is ok within i h =
-        let tests = passed-test (not (wellFormed m)) 6 _ ok in
-        let limit = ltb-false clockLimit n (passed-test (ltb clockLimit n) 2 0 (tests .1) .0) in
-        let well = not-false (wellFormed m) (tests .0) in
-        let some = clocks-left s left bs (sym (ap commandFormed is) ∙ command-formed m well) in
+        let well = not-false (wellFormed m) (passed-test (not (wellFormed m)) 6 _ ok .0) in
+        let some = some-left m well s left bs is in
         let place = subst (λ (c : Command). PlaceIs c (j .base) (j .count)) is (a .same-place) in
+        let one-more : n ≡ suc (n - 1) = omega arith in
         ap (λ (o : Outcome). getD (o .next .eeprom) (s + i) 0) (as-accepted m (advance n) ok)
-        ∙ ap (λ (x : List ℕ). getD x (s + i) 0) (finishes n m s left bs is some within (omega arith))
-        ∙ stored-at bs (m .eeprom) s i (omega (arith, place .0, place .1, a .whole)) h
+        ∙ ap (λ (k : ℕ). getD (clocks k m .eeprom) (s + i) 0) one-more
+        ∙ finishes (n - 1) m s left bs is (omega arith) (omega (arith, place .0, place .1)) (a .whole) i h
 
     programming-lasts : (n s left : ℕ) (bs : List ℕ) → m .command ≡ WriteE2 (programming s bs left) → refusal m (advance n) ≡ 0 → n < left →
         (perform m (advance n) .next .command ≡ WriteE2 (programming s bs (left - n))) × (perform m (advance n) .next .eeprom ≡ m .eeprom)

@@ -28,8 +28,6 @@ use Rattle.journal.proofs.Adding.{Each, Adds, none-of, adds-none, Moved
 use Rattle.journal.proofs.Agreement.{Agrees, AgreesWith, placed, memories, programmed-agrees}
 use Rattle.journal.proofs.Steps.{take-least, step-agrees}
 use Rattle.journal.proofs.Calls.{idle-latch, timer-agrees, register-agrees, clocks-agree}
-use Rattle.journal.proofs.Timer.{timer-command}
-use Rattle.journal.proofs.Programming.{plain-clocked, goes-on, ends, pending, Resting, plain, fresh, programmed-rests}
 
 -- Entries of no host read, of no take and of no start.
 pub record Inside (xs : List Entry) : Type 0 where
@@ -44,7 +42,7 @@ inside-none = record { no-host = refl; no-frame = refl; no-start = refl }
 neither : {X : Type 0} (f : Entry → List X) (xs ys : List Entry) → collect f xs ≡ [] → collect f ys ≡ [] → collect f (xs ++ ys) ≡ []
 neither f xs ys p q = collect-append f xs ys ∙ ap (λ (z : List _). z ++ collect f ys) p ∙ q
 
-inside-both : (xs ys : List Entry) → Inside xs → Inside ys → Inside (xs ++ ys)
+pub inside-both : (xs ys : List Entry) → Inside xs → Inside ys → Inside (xs ++ ys)
 inside-both xs ys a b =
     record {
       no-host = neither (bytesTo e.host) xs ys (a .no-host) (b .no-host);
@@ -274,40 +272,8 @@ module _ (image : List ℕ) where
   written-enters r v m j a =
       enters-both (enters-plain (register-adds Apart moved r v m j) (sym (register-waits m r v))) (settle-enters (registerWritten r v m) (enterRegister r v m j) (register-agrees image r v m j a))
 
-  -- Clocks by which no programming ends.
-  quiet-clock : (c : Command) (m : Machine) (j : Journal) → programs c ≡ false → enterClockOf c m j ≡ j
-  quiet-clock c m j p =
-      while-programming (λ (k : Journal). k ≡ j) (λ a bs left. cond (leb left 1) (enterEnd a bs m j) j) j c (λ a bs left is. absurd (true≢false (sym (ap programs is) ∙ p))) refl
-
-  pub plain-clocks : (n : ℕ) (m : Machine) (j : Journal) → programs (m .command) ≡ false → (enterClocks n m j ≡ j) × (waiting (clocks n m .command) ≡ [])
-  unfolding clocks enterClocks clock
-  plain-clocks zero m j p = (refl, idle-latch (m .command) p)
-  plain-clocks (suc n) m j p =
-      let same : clock m ≡ timerClock m = plain-clocked (m .command) (timerClock m) p in
-      let (stays, none) = plain-clocks n (clock m) j (ap (λ (x : Machine). programs (x .command)) same ∙ ap programs (timer-command m) ∙ p) in
-      (ap (enterClocks n (clock m)) (quiet-clock (m .command) (timerClock m) j p) ∙ stays, none)
-
-  -- One clock of a programming that goes on enters nothing, and one that ends it enters what the next bytes do.
-  clock-of : (m : Machine) (j : Journal) (a left : ℕ) (bs : List ℕ) → m .command ≡ WriteE2 (programming a bs left) → (t : Bool) → leb left 1 ≡ t →
-      enterClockOf (m .command) (timerClock m) j ≡ cond t (enterEnd a bs (timerClock m) j) j
-  clock-of m j a left bs is t e = ap (λ (c : Command). enterClockOf c (timerClock m) j) is ∙ ap (λ (u : Bool). cond u (enterEnd a bs (timerClock m) j) j) e
-
-  pub pending-clocks : (n : ℕ) (m : Machine) (j : Journal) (a left : ℕ) (bs : List ℕ) → m .command ≡ WriteE2 (programming a bs left) → n < left → enterClocks n m j ≡ j
-  unfolding enterClocks
-  pending-clocks zero m j a left bs is h = refl
-  pending-clocks (suc n) m j a left bs is h =
-      ap (enterClocks n (clock m)) (clock-of m j a left bs is false (lt-leb left 1 (omega arith)))
-      ∙ pending-clocks n (clock m) j a (left - 1) bs (ap (λ (x : Machine). x .command) (goes-on m a left bs is (omega arith))) (omega arith)
-
-  resting-clocks : (n : ℕ) (m : Machine) (j : Journal) → n < programmingClocks → Resting (m .command) → (enterClocks n m j ≡ j) × (waiting (clocks n m .command) ≡ waiting (m .command))
-  resting-clocks n m j h r = go (m .command) refl r
-    where
-      go : (c : Command) → m .command ≡ c → Resting c → (enterClocks n m j ≡ j) × (waiting (clocks n m .command) ≡ waiting c)
-      go c is (plain p) = let (stays, none) = plain-clocks n m j (ap programs is ∙ p) in (stays, none ∙ sym (idle-latch c p))
-      go c is (fresh a bs) = (pending-clocks n m j a programmingClocks bs is h, ap waiting (pending n m a programmingClocks bs is h .0))
-
   -- The end of a programming: the bytes that wait then are those that leave by it.
-  end-enters : (s left : ℕ) (bs : List ℕ) (m : Machine) (j : Journal) → m .command ≡ WriteE2 (programming s bs left) → AgreesWith image m j → Enters Idle j (programmed s bs m .command) (enterEnd s bs m j)
+  pub end-enters : (s left : ℕ) (bs : List ℕ) (m : Machine) (j : Journal) → m .command ≡ WriteE2 (programming s bs left) → AgreesWith image m j → Enters Idle j (programmed s bs m .command) (enterEnd s bs m j)
   end-enters s left bs m j is a =
       subst (λ (h : List ℕ). Enters Idle j (programmed s bs m .command) (cond (eqb (length h) 0) j (enterSettled (batchStored s bs m) j))) (sym (a .same-held)) (go (eqb (length (m .held)) 0))
     where
@@ -319,39 +285,3 @@ module _ (image : List ℕ) where
       go : (t : Bool) → Enters Idle j ((cond t (raisedTx (batchStored s bs m)) (settled (batchStored s bs m))) .command) (cond t j (enterSettled (batchStored s bs m) j))
       go true = enters-plain (adds-none Apart j j refl) refl
       go false = let l = settle-enters (batchStored s bs m) j stored in record { entries = l .entries; appended = l .appended; inside = l .inside; waits = l .waits }
-
-  -- An advance that ends a programming.
-  pub finish-enters : (n : ℕ) (m : Machine) (j : Journal) (a left : ℕ) (bs : List ℕ) → m .command ≡ WriteE2 (programming a bs left) → AgreesWith image m j → 1 ≤ left → left ≤ n → n < left + programmingClocks →
-      Enters Idle j (clocks n m .command) (enterClocks n m j)
-  unfolding clocks enterClocks
-  finish-enters zero m j a left bs is agrees some within before = absurd (omega arith)
-  finish-enters (suc n) m j a left bs is agrees some within before =
-      go (leb left 1) refl
-      (λ more next.
-      finish-enters n (clock m) j a (left - 1) bs (ap (λ (x : Machine). x .command) (goes-on m a left bs is more)) next (omega arith) (omega arith) (omega arith))
-    where
-      tm : Machine
-      tm = timerClock m
-
-      k : Journal
-      k = enterClockOf (m .command) (timerClock m) j
-
-      go : (t : Bool) → leb left 1 ≡ t → (1 < left → AgreesWith image (clock m) j → Enters Idle j (clocks n (clock m) .command) (enterClocks n (clock m) j)) →
-          Enters Idle j (clocks n (clock m) .command) (enterClocks n (clock m) k)
-      go true e later =
-          let same = ends m a left bs is (leb-true left 1 e) in
-          let last = programmed-rests a bs tm in
-          let (stays, wait) = resting-clocks n (programmed a bs tm) (enterEnd a bs tm j) (omega (arith, leb-true left 1 e)) (last .resting) in
-          let l = end-enters a left bs tm j (timer-command m ∙ is) (timer-agrees image m j agrees) in
-          subst (λ (x : Machine). Enters Idle j (clocks n x .command) (enterClocks n x k)) (sym same)
-          (subst (λ (z : Journal). Enters Idle j (clocks n (programmed a bs tm) .command) (enterClocks n (programmed a bs tm) z)) (sym (clock-of m j a left bs is true e))
-          (record {
-            entries = l .entries;
-            appended = ap (λ (z : Journal). z .entries) stays ∙ l .appended;
-            inside = l .inside;
-            waits = l .waits ∙ sym wait;
-          }))
-      go false e later =
-          let stays : k ≡ j = clock-of m j a left bs is false e in
-          subst (λ (z : Journal). Enters Idle j (clocks n (clock m) .command) (enterClocks n (clock m) z)) (sym stays)
-          (later (leb-false left 1 e) (subst (AgreesWith image (clock m)) stays (clocks-agree image 1 m j agrees)))

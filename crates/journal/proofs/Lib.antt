@@ -3,11 +3,11 @@ pub mod Adding
 pub mod Moves
 pub mod Agreement
 pub mod Steps
-pub mod Timer
 pub mod Calls
 pub mod Run
 pub mod Keys
 pub mod Programming
 pub mod Demand
 pub mod Entered
+pub mod Clocks
 pub mod Account

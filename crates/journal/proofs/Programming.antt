@@ -1,23 +1,21 @@
--- An advance that ends a programming leaves its bytes at their addresses.
+-- An advance that ends programmings leaves the bytes of each at their addresses.
 -- Assumes nothing.
 use mathlib.Core.Path.{_≡_, refl, sym, ap, _∙_, subst}
-use mathlib.Core.Bool.{Bool, true, false, cond, true≢false, false≢true}
-use mathlib.Core.List.{List, [], _∷_, _++_}
-use Prim.Native.Nat.{ℕ, zero, suc, _+_, _-_, _%_, _<_, _≤_, _^_}
+use mathlib.Core.Bool.{Bool, true, false}
+use mathlib.Core.List.{List, [], _∷_}
+use Prim.Native.Nat.{ℕ, zero, suc, _+_, _-_, _%_, _<_, _≤_}
 use native.Mathlib.Nat.{not-suc-le-zero, le-of-suc-le-suc}
 use native.Mathlib.Omega.{arith}
-use native.Mathlib.Numerals.{add-one}
-use lib.Dec.{ltb, leb, eqb}
-use lib.ListN.{length, getD, take, set, length-set}
+use lib.Dec.{leb}
+use lib.ListN.{length, getD, take, set, length-set, length-take}
 use lib.Seq.{getD-set-same, getD-set-other}
-use borrow.Author.Tests.{leb-true, leb-false, le-leb, lt-leb, eqb-true}
-use Rattle.machine.specs.State.{Machine, Command, Writing, Idle, WriteE2, ReadE2, LoadConfig, LoadKeyE2, LoadKey, CalcCRC, Transmit, Receive, TransceiveSending, TransceiveReceiving, addressing, ready, programming, withCommand, withTimer}
+use borrow.Author.Tests.{leb-true, leb-false}
+use Rattle.machine.specs.State.{Machine, Command, WriteE2, programming}
 use Rattle.machine.specs.Memory.{storedFrom, roomInBlock, programmingClocks}
 use Rattle.machine.specs.Timer.{timerClock}
-use Rattle.journal.proofs.Timer.{timer-eeprom, timer-command}
-use Rattle.machine.specs.Commands.{programs, enough, taken, ended, withAccessErr, latched, raisedTx, steppedAs, stepped, settled}
-use Rattle.machine.specs.Events.{batchStored, programmed, programmingClocked, commandClocked, clock, clocks}
-use Rattle.machine.proofs.Cases.{while-programming}
+use Rattle.machine.specs.Commands.{programs}
+use Rattle.machine.specs.Events.{programmed, clock, clocks}
+use Rattle.machine.proofs.Clock.{timer-eeprom, timer-command, plain-clocked, goes-on, ends, end-any}
 
 -- A byte below the stored ones is as it was; each stored byte stands at its address.
 stored-below : (bs eeprom : List ℕ) (a k : ℕ) → k < a → getD (storedFrom eeprom a bs) k 0 ≡ getD eeprom k 0
@@ -38,32 +36,6 @@ stored-at (b ∷ bs) eeprom a (suc i) fits h =
     ap (λ (k : ℕ). getD (storedFrom (set eeprom a b) (a + 1) bs) k 0) next
     ∙ stored-at bs (set eeprom a b) (a + 1) i (omega (arith, length-set eeprom a b)) (le-of-suc-le-suc h)
 
--- A command that does not program stands while clocks come.
-pub plain-clocked : (c : Command) (n : Machine) → programs c ≡ false → commandClocked c n ≡ n
-plain-clocked c n p =
-    while-programming (λ (f : Machine → Machine). f n ≡ n) programmingClocked (λ m. m) c (λ a bs left is. absurd (true≢false (sym (ap programs is) ∙ p))) refl
-
-plain-stands : (n : ℕ) (m : Machine) → programs (m .command) ≡ false → clocks n m .eeprom ≡ m .eeprom
-unfolding clocks clock
-plain-stands zero m p = refl
-plain-stands (suc n) m p =
-    let same : clock m ≡ timerClock m = plain-clocked (m .command) (timerClock m) p in
-    plain-stands n (clock m) (ap (λ (x : Machine). programs (x .command)) same ∙ ap programs (timer-command m) ∙ p) ∙ ap (λ (x : Machine). x .eeprom) same ∙ timer-eeprom m
-
--- One clock of a programming that goes on, and of one that ends.
-module _ (m : Machine) (a left : ℕ) (bs : List ℕ) (is : m .command ≡ WriteE2 (programming a bs left)) where
-  pub goes-on : 1 < left → clock m ≡ withCommand (WriteE2 (programming a bs (left - 1))) (timerClock m)
-  unfolding clock
-  goes-on more =
-      ap (λ (c : Command). commandClocked c (timerClock m)) is
-      ∙ ap (λ (t : Bool). cond t (programmed a bs (timerClock m)) (withCommand (WriteE2 (programming a bs (left - 1))) (timerClock m))) (lt-leb left 1 more)
-
-  pub ends : left ≤ 1 → clock m ≡ programmed a bs (timerClock m)
-  unfolding clock
-  ends last =
-      ap (λ (c : Command). commandClocked c (timerClock m)) is
-      ∙ ap (λ (t : Bool). cond t (programmed a bs (timerClock m)) (withCommand (WriteE2 (programming a bs (left - 1))) (timerClock m))) (le-leb left 1 last)
-
 -- While a programming has clocks left, its bytes wait on and memory stands.
 pub pending : (n : ℕ) (m : Machine) (a left : ℕ) (bs : List ℕ) → m .command ≡ WriteE2 (programming a bs left) → n < left →
     (clocks n m .command ≡ WriteE2 (programming a bs (left - n))) × (clocks n m .eeprom ≡ m .eeprom)
@@ -75,71 +47,72 @@ pending (suc n) m a left bs is h =
     let less : left - 1 - n ≡ left - suc n = omega arith in
     (waits ∙ ap (λ (k : ℕ). WriteE2 (programming a bs k)) less, stands ∙ ap (λ (x : Machine). x .eeprom) same ∙ timer-eeprom m)
 
--- A command under which memory stands for less than one programming.
-pub data Resting : Command → Type 0 where
-  plain : {c : Command} → programs c ≡ false → Resting c
-  fresh : (a : ℕ) (bs : List ℕ) → Resting (WriteE2 (programming a bs programmingClocks))
+-- Clocks store nothing below an address: no programming runs, or one from there on, and what follows it comes behind it.
+data StoresFrom (b : ℕ) : Command → Type 0 where
+  never : {c : Command} → programs c ≡ false → StoresFrom b c
+  from : (a left : ℕ) (bs : List ℕ) → b ≤ a → a + length bs ≤ 0x200 → StoresFrom b (WriteE2 (programming a bs left))
 
-rests : (n : ℕ) (m : Machine) → n < programmingClocks → Resting (m .command) → clocks n m .eeprom ≡ m .eeprom
-rests n m h r = go (m .command) refl r
+-- At the end of a programming: its bytes are in EEPROM, and what is latched then comes behind them.
+module _ (a : ℕ) (bs : List ℕ) (m : Machine) (inside : a + length bs ≤ 0x200) where
+  end-stores : programmed a bs m .eeprom ≡ storedFrom (m .eeprom) a bs
+  end-stores = end-any a bs m (λ x. x .eeprom ≡ storedFrom (m .eeprom) a bs) refl refl (λ some high. refl)
+
+  end-from : (b : ℕ) → b ≤ a + length bs → StoresFrom b (programmed a bs m .command)
+  end-from b below =
+      let next = (a + length bs) % 0x200 in
+      end-any a bs m (λ x. StoresFrom b (x .command)) (never refl) (never refl)
+      (λ some high. from next programmingClocks (take (roomInBlock next) (m .held)) (omega arith) (omega (arith, length-take (roomInBlock next) (m .held))))
+
+-- One clock, and any number of them.
+clock-from : (b : ℕ) (m : Machine) → StoresFrom b (m .command) → StoresFrom b (clock m .command) × ((k : ℕ) → k < b → getD (clock m .eeprom) k 0 ≡ getD (m .eeprom) k 0)
+unfolding clock
+clock-from b m at = go (m .command) refl at
   where
-    go : (c : Command) → m .command ≡ c → Resting c → clocks n m .eeprom ≡ m .eeprom
-    go c is (plain p) = plain-stands n m (ap programs is ∙ p)
-    go c is (fresh a bs) = pending n m a programmingClocks bs is h .1
+    Next : Machine → Type 0
+    Next x = StoresFrom b (x .command) × ((k : ℕ) → k < b → getD (x .eeprom) k 0 ≡ getD (m .eeprom) k 0)
 
--- A WriteE2 with a known address rests after it has settled.
-pub record Rested (z n : Machine) : Type 0 where
-  pub resting : Resting (n .command)
-  memory : n .eeprom ≡ z .eeprom
-  done : stepped n ≡ n
+    stands : (k : ℕ) → getD (timerClock m .eeprom) k 0 ≡ getD (m .eeprom) k 0
+    stands k = ap (λ (x : List ℕ). getD x k 0) (timer-eeprom m)
 
-step-rests : (z : Machine) (s : ℕ) → z .command ≡ WriteE2 (ready s) → Rested z (stepped z)
-unfolding stepped
-step-rests z s is = subst (Rested z) (sym here) (go (enough 1 z) refl)
-  where
-    here : stepped z ≡ cond (enough 1 z) (latched s z) z
-    here = ap (λ (c : Command). steppedAs c z) is
+    go : (c : Command) → m .command ≡ c → StoresFrom b c → Next (clock m)
+    go c is (never p) =
+        subst Next (sym (plain-clocked (m .command) (timerClock m) (ap programs is ∙ p))) (subst (StoresFrom b) (sym (timer-command m ∙ is)) (never p), λ k h. stands k)
+    go c is (from a left bs below inside) = by (leb left 1) refl
+      where
+        by : (t : Bool) → leb left 1 ≡ t → Next (clock m)
+        by true e =
+            subst Next (sym (ends m a left bs is (leb-true left 1 e))) (
+              end-from a bs (timerClock m) inside b (omega arith),
+              λ k h. ap (λ (x : List ℕ). getD x k 0) (end-stores a bs (timerClock m) inside) ∙ stored-below bs (timerClock m .eeprom) a k (omega arith) ∙ stands k,
+            )
+        by false e = subst Next (sym (goes-on m a left bs is (leb-false left 1 e))) (from a (left - 1) bs below inside, λ k h. stands k)
 
-    latches : (t : Bool) → Rested z (cond t (ended (withAccessErr z)) (withCommand (WriteE2 (programming s (take (roomInBlock s) (z .held)) programmingClocks)) (taken (roomInBlock s) z)))
-    latches true = record { resting = plain refl; memory = refl; done = refl }
-    latches false = record { resting = fresh s (take (roomInBlock s) (z .held)); memory = refl; done = refl }
-
-    go : (t : Bool) → enough 1 z ≡ t → Rested z (cond t (latched s z) z)
-    go true e = latches (ltb s 0x10)
-    go false e = record { resting = plain (ap programs is); memory = refl; done = here ∙ ap (λ (t : Bool). cond t (latched s z) z) e }
-
-settled-rests : (z : Machine) (s : ℕ) → z .command ≡ WriteE2 (ready s) → Rested z (settled z)
-unfolding settled
-settled-rests z s is = let r = step-rests z s is in subst (Rested z) (sym (r .done)) r
-
-pub programmed-rests : (a : ℕ) (bs : List ℕ) (m : Machine) → Rested (batchStored a bs m) (programmed a bs m)
-unfolding stepped
-programmed-rests a bs m = go (eqb (length (m .held)) 0) refl
-  where
-    go : (t : Bool) → eqb (length (m .held)) 0 ≡ t → Rested (batchStored a bs m) (cond t (raisedTx (batchStored a bs m)) (settled (batchStored a bs m)))
-    go true e =
-        let none : length (m .held) ≡ 0 = eqb-true (length (m .held)) 0 e in
-        record { resting = plain refl; memory = refl; done = ap (λ (t : Bool). cond t (latched ((a + length bs) % 0x200) (raisedTx (batchStored a bs m))) (raisedTx (batchStored a bs m))) (lt-leb 1 (length (m .held)) (omega arith)) }
-    go false e = settled-rests (batchStored a bs m) ((a + length bs) % 0x200) refl
-
--- A programming that ends within an advance leaves its bytes in memory, and no later one ends in the same advance.
-pub finishes : (n : ℕ) (m : Machine) (a left : ℕ) (bs : List ℕ) → m .command ≡ WriteE2 (programming a bs left) → 1 ≤ left → left ≤ n → n < left + programmingClocks →
-    clocks n m .eeprom ≡ storedFrom (m .eeprom) a bs
+untouched : (n b : ℕ) (m : Machine) → StoresFrom b (m .command) → (k : ℕ) → k < b → getD (clocks n m .eeprom) k 0 ≡ getD (m .eeprom) k 0
 unfolding clocks
-finishes zero m a left bs is some within before = absurd (omega arith)
-finishes (suc n) m a left bs is some within before =
+untouched zero b m at k h = refl
+untouched (suc n) b m at k h = let (next, same) = clock-from b m at in untouched n b (clock m) next k h ∙ same k h
+
+-- A programming that ends leaves its bytes at their addresses, however many clocks and programmings follow.
+module _ (m : Machine) (a left : ℕ) (bs : List ℕ) (is : m .command ≡ WriteE2 (programming a bs left)) (inside : a + length bs ≤ 0x200) (size : length (m .eeprom) ≡ 0x200) where
+  ends-now : (n : ℕ) → left ≤ 1 → (i : ℕ) → i < length bs → getD (clocks (suc n) m .eeprom) (a + i) 0 ≡ getD bs i 0
+  unfolding clocks
+  ends-now n last i h =
+      let x = timerClock m in
+      ap (λ (y : Machine). getD (clocks n y .eeprom) (a + i) 0) (ends m a left bs is last)
+      ∙ untouched n (a + length bs) (programmed a bs x) (end-from a bs x inside (a + length bs) (omega arith)) (a + i) (omega arith)
+      ∙ ap (λ (y : List ℕ). getD y (a + i) 0) (end-stores a bs x inside)
+      ∙ stored-at bs (x .eeprom) a i (omega (arith, ap length (timer-eeprom m), size)) h
+
+pub finishes : (n : ℕ) (m : Machine) (a left : ℕ) (bs : List ℕ) → m .command ≡ WriteE2 (programming a bs left) → left ≤ suc n → a + length bs ≤ 0x200 → length (m .eeprom) ≡ 0x200 →
+    (i : ℕ) → i < length bs → getD (clocks (suc n) m .eeprom) (a + i) 0 ≡ getD bs i 0
+unfolding clocks
+finishes zero m a left bs is within inside size i h = ends-now m a left bs is inside size zero within i h
+finishes (suc n) m a left bs is within inside size i h =
     go (leb left 1) refl
-    (λ more. finishes n (clock m) a (left - 1) bs (ap (λ (x : Machine). x .command) (goes-on m a left bs is more)) (omega arith) (omega arith) (omega arith))
+    (λ more.
+    let next = goes-on m a left bs is more in
+    finishes n (clock m) a (left - 1) bs (ap (λ (y : Machine). y .command) next) (omega arith) inside (ap (λ (y : Machine). length (y .eeprom)) next ∙ ap length (timer-eeprom m) ∙ size) i h)
   where
-    go : (t : Bool) → leb left 1 ≡ t → (1 < left → clocks n (clock m) .eeprom ≡ storedFrom (clock m .eeprom) a bs) → clocks n (clock m) .eeprom ≡ storedFrom (m .eeprom) a bs
-    go true e later =
-        let same = ends m a left bs is (leb-true left 1 e) in
-        let r = programmed-rests a bs (timerClock m) in
-        ap (λ (x : Machine). clocks n x .eeprom) same
-        ∙ rests n (programmed a bs (timerClock m)) (omega (arith, leb-true left 1 e)) (r .resting)
-        ∙ r .memory
-        ∙ ap (λ (x : List ℕ). storedFrom x a bs) (timer-eeprom m)
-    go false e later =
-        later (leb-false left 1 e)
-        ∙ ap (λ (x : Machine). storedFrom (x .eeprom) a bs) (goes-on m a left bs is (leb-false left 1 e))
-        ∙ ap (λ (x : List ℕ). storedFrom x a bs) (timer-eeprom m)
+    go : (t : Bool) → leb left 1 ≡ t → (1 < left → getD (clocks (suc n) (clock m) .eeprom) (a + i) 0 ≡ getD bs i 0) → getD (clocks (suc n) (clock m) .eeprom) (a + i) 0 ≡ getD bs i 0
+    go true e later = ends-now m a left bs is inside size (suc n) (leb-true left 1 e) i h
+    go false e later = later (leb-false left 1 e)

@@ -2,10 +2,11 @@
 -- property where it has it there and under every other command.
 -- Assumes nothing.
 use Prim.Native.Nat.{ℕ}
-use mathlib.Core.Path.{_≡_, refl}
-use mathlib.Core.Bool.{Bool, true, false, cond}
+use mathlib.Core.Path.{_≡_, refl, sym, ap, _∙_}
+use mathlib.Core.Bool.{Bool, true, false, cond, true≢false}
 use mathlib.Core.List.{List}
 use Rattle.machine.specs.State.{Command, Writing, Idle, WriteE2, ReadE2, LoadConfig, LoadKeyE2, LoadKey, CalcCRC, Transmit, Receive, TransceiveSending, TransceiveReceiving, addressing, ready, programming, withinWriteE2, ofProgramming, whileProgramming}
+use Rattle.machine.specs.Commands.{programs}
 
 -- A choice by a test has what both its sides have.
 pub by-cond : {A : Type 0} (P : A → Type 0) (t : Bool) (x y : A) → (t ≡ true → P x) → (t ≡ false → P y) → P (cond t x y)
@@ -37,3 +38,14 @@ module _ {X : Type 0} (P : X → Type 0) where
       go addressing is = o
       go (ready a) is = o
       go (programming a bs left) is = h a bs left is
+
+-- A programming, or none.
+pub data Kind (c : Command) : Type 0 where
+  still : programs c ≡ false → Kind c
+  under : (a : ℕ) (bs : List ℕ) (left : ℕ) → c ≡ WriteE2 (programming a bs left) → Kind c
+
+pub kind : (c : Command) → Kind c
+kind c = while-programming (λ (t : Bool). programs c ≡ t → Kind c) (λ a bs left. true) false c (λ a bs left is p. under a bs left is) (λ p. still p) refl
+
+pub not-programming : {X : Type 0} (there : ℕ → List ℕ → ℕ → X) (other : X) (c : Command) → programs c ≡ false → whileProgramming there other c ≡ other
+not-programming there other c p = while-programming (λ x. x ≡ other) there other c (λ a bs left is. absurd (true≢false (sym (ap programs is) ∙ p))) refl

@@ -1,8 +1,11 @@
 pub mod Cases
+pub mod Clock
+pub mod ManyClocks
 pub mod ModemStates
 pub mod Numbers
 pub mod Performing
 pub mod ProgrammingTime
+pub mod Settling
 pub mod SingleClock
 pub mod WaterLevels
 pub mod WellFormed

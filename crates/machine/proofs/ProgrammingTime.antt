@@ -6,7 +6,6 @@ use mathlib.Core.Bool.{Bool, true, false, cond, _&&_, true≢false}
 use mathlib.Core.List.{List}
 use lib.Dec.{ltb, leb, eqb}
 use lib.ListN.{length, take}
-use borrow.Author.Tests.{le-leb, lt-leb}
 use Rattle.bits.specs.Bits.{bitSet}
 use Rattle.machine.specs.State.{Machine, Command, Writing, Idle, WriteE2, ReadE2, LoadConfig, LoadKeyE2, LoadKey, CalcCRC, Transmit, Receive, TransceiveSending, TransceiveReceiving, addressing, ready, programming, withCommand}
 use Rattle.machine.specs.Memory.{roomInBlock, programmingClocks}
@@ -15,9 +14,10 @@ use Rattle.machine.specs.Timer.{timerStarted, timerStopped, timerClock}
 use Rattle.machine.specs.Commands.{programs, withAccessErr, ended, enough, taken, latched, writeStepped, steppedAs, stepped, settled, commandStarted, commandWritten, clearedErrors}
 use Rattle.machine.specs.Registers.{mapped, controlWritten, registerWritten}
 use Rattle.machine.specs.Refusals.{hostWrite, refusal}
-use Rattle.machine.specs.Events.{Outcome, written, perform, batchStored, programmed, commandClocked, clock}
+use Rattle.machine.specs.Events.{Outcome, written, perform, programmed, clock}
 use Rattle.machine.specs.ProgrammingTime.{ProgrammingTime}
 use Rattle.machine.proofs.Cases.{either}
+use Rattle.machine.proofs.Clock.{goes-on, ends, end-any}
 
 -- No programming runs, or one that has all its clocks left.
 data Whole : Command → Type 0 where
@@ -115,24 +115,13 @@ write-begins m address v a left bs idle is =
     whole-clocks a left bs (subst Whole is (write-keeps Whole address v m before after))
 
 one-fewer : (m : Machine) (a left : ℕ) (bs : List ℕ) → m .command ≡ WriteE2 (programming a bs left) → 1 < left → clock m .command ≡ WriteE2 (programming a bs (left - 1))
-unfolding clock
-one-fewer m a left bs runs more =
-    let x = timerClock m in
-    let goes-on : Machine = withCommand (WriteE2 (programming a bs (left - 1))) x in
-    let ends-at-1 : commandClocked (WriteE2 (programming a bs left)) x ≡ cond (leb left 1) (programmed a bs x) goes-on = refl in
-    ap (λ (c : Command). commandClocked c x .command) runs
-    ∙ ap (λ (y : Machine). y .command) ends-at-1
-    ∙ ap (λ (t : Bool). (cond t (programmed a bs x) goes-on) .command) (lt-leb left 1 more)
+one-fewer m a left bs runs more = ap (λ (y : Machine). y .command) (goes-on m a left bs runs more)
 
 clock-begins : (m : Machine) (a left b left′ : ℕ) (bs cs : List ℕ) → m .command ≡ WriteE2 (programming a bs left) → left ≤ 1 →
     clock m .command ≡ WriteE2 (programming b cs left′) → left′ ≡ programmingClocks
-unfolding clock
 clock-begins m a left b left′ bs cs runs last is =
-    let x = timerClock m in
-    let ends : clock m ≡ programmed a bs x =
-    ap (λ (c : Command). commandClocked c x) runs ∙ ap (λ (t : Bool). cond t (programmed a bs x) (withCommand (WriteE2 (programming a bs (left - 1))) x)) (le-leb left 1 last) in
-    let whole : WholeNow (programmed a bs x) = either WholeNow (eqb (length (x .held)) 0) _ _ (none _ refl) (settled-whole (batchStored a bs x) (none _ refl)) in
-    whole-clocks b left′ cs (subst Whole (ap (λ (y : Machine). y .command) (sym ends) ∙ is) whole)
+    let whole : WholeNow (programmed a bs (timerClock m)) = end-any a bs (timerClock m) WholeNow (none _ refl) (none Idle refl) (λ some high. all _ _ _ refl) in
+    whole-clocks b left′ cs (subst Whole (ap (λ (y : Machine). y .command) (sym (ends m a left bs runs last)) ∙ is) whole)
 
 -- A programming takes no byte.
 settled-stands : (m : Machine) (a left : ℕ) (bs : List ℕ) → m .command ≡ WriteE2 (programming a bs left) → settled m ≡ m

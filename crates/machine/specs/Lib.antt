@@ -11,6 +11,7 @@ pub mod Frames
 pub mod State
 pub mod WellFormedness
 pub mod SingleClock
+pub mod ManyClocks
 pub mod ProgrammingTime
 pub mod Numbers
 pub mod Readings

@@ -1,5 +1,5 @@
 -- Manual 10: which call is refused with which number. A call's tests come one after the other, 7 ahead of all others and 4 behind them; of a start
--- only the image is judged. The number 0 stands for no refusal.
+-- only the image is judged. The number 0 stands for no refusal, and 3 is never given: an advance is by any number of clocks.
 -- Assumes nothing.
 use Prim.Native.Nat.{ℕ, _<_}
 use Rattle.bits.specs.Bits.{Bytes}
@@ -26,10 +26,6 @@ pub data Call : Type 0 where
   -- of bytes, their parity bits, and the last-bit count
   deliver : List ℕ → List ℕ → ℕ → Call
 
--- An advance by more than this is refused with 3.
-abbrev pub clockLimit : ℕ
-clockLimit = 65_535
-
 unfoldable pub allBits : List ℕ → Bool
 allBits [] = true
 allBits (p ∷ ps) = leb p 1 && allBits ps
@@ -47,7 +43,7 @@ unfoldable pub refusal : Machine → Call → ℕ
 refusal m (start image) = refuseIf (not (eqb (length image) 512)) 2 0
 refusal m (hostRead address) = refuseIf (not (wellFormed m)) 7 (refuseIf (ltb 63 address) 1 0)
 refusal m (hostWrite address v) = refuseIf (not (wellFormed m)) 7 (refuseIf (ltb 63 address) 1 0)
-refusal m (advance clocks) = refuseIf (not (wellFormed m)) 7 (refuseIf (ltb clockLimit clocks) 3 0)
+refusal m (advance clocks) = refuseIf (not (wellFormed m)) 7 0
 refusal m (takeFrame buffer) =
     refuseIf (not (wellFormed m)) 7
     (refuseIf (ltb (length buffer) 66) 6

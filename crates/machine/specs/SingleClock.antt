@@ -1,15 +1,15 @@
 -- The single-clock rule (manual 9.7): advancing the machine by a number of clocks is the same as advancing it by so many single clocks, for every
 -- machine; and so for the calls that ask for it, of every well-formed machine.
 -- Assumes nothing.
-use Prim.Native.Nat.{ℕ, zero, suc, _+_, _<_, _≤_}
+use Prim.Native.Nat.{ℕ, zero, suc, _+_, _≤_}
 use mathlib.Core.Path.{_≡_}
 use mathlib.Core.Bool.{true, false}
 use mathlib.Core.List.{[]}
 use lib.ListN.{length, replicate}
 use Rattle.machine.specs.State.{Machine}
 use Rattle.machine.specs.Fifo.{loAlert, hiAlert, alerted}
-use Rattle.machine.specs.Refusals.{advance, clockLimit}
-use Rattle.machine.specs.Events.{clock, clocks, advanced, refused, done, perform, afterCalls}
+use Rattle.machine.specs.Refusals.{advance}
+use Rattle.machine.specs.Events.{clock, clocks, advanced, done, perform, afterCalls}
 use Rattle.machine.specs.WellFormedness.{Formed}
 
 -- So many advances, each by one clock.
@@ -34,17 +34,12 @@ pub record SingleClockRule : Type 0 where
   pub lo-rises : (n : ℕ) (m : Machine) → loAlert m ≡ true → loAlert (clocks n m) ≡ true
   pub hi-falls : (n : ℕ) (m : Machine) → hiAlert m ≡ false → hiAlert (clocks n m) ≡ false
 
--- The same of calls. A machine that is not well formed refuses each of them with 7.
+-- The same of calls. A machine that is not well formed refuses each of them with 7. A number of clocks has no bound here; a program's has 32 bits, so that
+-- its sums are those that fit.
 pub record SingleClockCalls : Type 0 where
-  -- A call for at most 65,535 clocks is done: it answers so, and the machine has advanced by them.
-  pub within-limit :
-      (n : ℕ) (m : Machine) → Formed m → n ≤ clockLimit → perform m (advance n) ≡ record { answer = done; next = advanced n m; buffer = [] }
-  -- A call for more is refused with 3 and leaves the machine.
-  pub above-limit :
-      (n : ℕ) (m : Machine) → Formed m → clockLimit < n → perform m (advance n) ≡ record { answer = refused 3; next = m; buffer = [] }
+  -- A call for any number of clocks is done: it answers so, and the machine has advanced by them.
+  pub is-done : (n : ℕ) (m : Machine) → Formed m → perform m (advance n) ≡ record { answer = done; next = advanced n m; buffer = [] }
   -- A call for a sum answers and leaves what the second of two calls does, each for one part.
-  pub sums :
-      (a b : ℕ) (m : Machine) → Formed m → a + b ≤ clockLimit → perform m (advance (a + b)) ≡ perform (perform m (advance a) .next) (advance b)
+  pub sums : (a b : ℕ) (m : Machine) → Formed m → perform m (advance (a + b)) ≡ perform (perform m (advance a) .next) (advance b)
   -- A call for n clocks leaves what n calls for one clock do.
-  pub singles :
-      (n : ℕ) (m : Machine) → Formed m → n ≤ clockLimit → perform m (advance n) .next ≡ afterCalls m (replicate n (advance 1))
+  pub singles : (n : ℕ) (m : Machine) → Formed m → perform m (advance n) .next ≡ afterCalls m (replicate n (advance 1))

@@ -1,7 +1,8 @@
 // Runs the number of manual 15 for WriteE2: five bytes from 16Ch on, each written as soon as the one before, take three programmings.
 //
 // The first byte is programmed alone, since none waits behind it yet; then the three that fit before the block's end at 16Fh; then the last,
-// at 170h. Each programming takes 78,648 clocks. A line is printed one clock before the end of each and at its end.
+// at 170h. Each programming takes 78,648 clocks. A line is printed one clock before the end of each and at its end; then the same with all clocks in
+// one advance, and with one clock less.
 use libc::STDOUT_FILENO;
 use program_blank_chip::blank_chip;
 use state::Chip;
@@ -42,18 +43,11 @@ fn five_bytes_written(chip: Chip) -> Chip {
     next
 }
 
-// So many clocks, in advances of at most 65,535.
+// So many clocks, in one advance.
 fn advanced(chip: Chip, clocks: u32) -> Chip {
-    let mut next = chip;
-    let mut left = clocks;
-    while 65_535 < left {
-        let out = entry_by_value::advance(next, 65_535);
-        next = out.chip;
-        left -= 65_535;
-    }
-    let out = entry_by_value::advance(next, left);
-    let last = out.chip;
-    last
+    let out = entry_by_value::advance(chip, clocks);
+    let next = out.chip;
+    next
 }
 
 // The byte that a host read answers.
@@ -111,4 +105,7 @@ fn main() {
     let first = programmed(written, 78_647, 78_648);
     let second = programmed(first, 157_295, 157_296);
     programmed(second, 235_943, 235_944);
+    io::write_all(STDOUT_FILENO, b"In one advance\n");
+    show(advanced(written, 235_943), 235_943);
+    show(advanced(written, 235_944), 235_944);
 }

@@ -119,17 +119,24 @@ fn keys(chip: Chip) -> Chip {
     steps::command(c, 0x0B, b"\x80\x00", b"LoadKeyE2 from 080h: KeyErr cleared")
 }
 
-// The timer: reload 3 and prescaler 1 make 6 clocks.
+// The timer: reload 3 and prescaler 1 make 6 clocks, which TAutoRestart repeats.
 fn timer(chip: Chip) -> Chip {
     let mut c = steps::set(chip, 0x2C, 0x03);
-    c = steps::set(c, 0x2A, 0x01);
+    c = steps::set(c, 0x2A, 0x21);
     c = steps::write(
         c,
         0x06,
         0xA0,
-        b"TimerReload 3, TPreScaler 1, InterruptEn for TimerIRq",
+        b"TimerReload 3, TPreScaler 1 and TAutoRestart, InterruptEn for TimerIRq",
     );
     c = steps::write(c, 0x09, 0x02, b"Control, TStartNow");
+    c = steps::clocks(
+        c,
+        4_294_967_295,
+        b"4,294,967,295 clocks: TimerIRq, and TimerValue 2 after 715,827,882 ends and three clocks",
+    );
+    c = steps::set(c, 0x2A, 0x01);
+    c = steps::write(c, 0x09, 0x02, b"TAutoRestart 0; Control, TStartNow");
     c = steps::clocks(c, 5, b"5 clocks");
     steps::clocks(
         c,
@@ -147,11 +154,9 @@ fn write_e2(chip: Chip) -> Chip {
         b"WriteE2 of A1h A2h A3h at 1FEh: A1h is programmed, two bytes wait",
     );
     c = steps::command(c, 0x00, b"", b"Idle while programming: ignored");
-    c = steps::clocks(c, 65_535, b"65,535 clocks");
-    c = steps::clocks(c, 13_112, b"13,112 clocks, so 78,647");
+    c = steps::clocks(c, 78_647, b"78,647 clocks");
     c = steps::clocks(c, 1, b"1 clock, so 78,648: A2h is programmed, A3h waits");
-    c = steps::clocks(c, 65_535, b"65,535 clocks");
-    c = steps::clocks(c, 13_112, b"13,112 clocks");
+    c = steps::clocks(c, 78_647, b"78,647 clocks");
     c = steps::clocks(
         c,
         1,
@@ -167,7 +172,6 @@ fn write_e2(chip: Chip) -> Chip {
 fn refused(chip: Chip, image: &[u8; 512]) {
     let mut c = steps::read(chip, 64, b"read address 64: refused");
     c = steps::write(c, 64, 0x00, b"write address 64: refused");
-    c = steps::clocks(c, 65_536, b"65,536 clocks: refused");
     let mut bytes = c.state;
     bytes[PAGE] = 0x08;
     c.state = bytes;

@@ -10,7 +10,7 @@ use lib.ListN.{length}
 use borrow.Author.Tests.{ltb-true, lt-ltb, le-ltb}
 use Rattle.machine.specs.WellFormed.{wellFormed, timerFormed, fifoFormed, commandFormed, nothingPends, checksumFormed, bitsFormed}
 use Rattle.machine.specs.WellFormedness.{Formed}
-use Rattle.machine.specs.Refusals.{Call, start, hostRead, hostWrite, advance, takeFrame, deliver, refusal, refuseIf, clockLimit, frameFormed, ByteCall}
+use Rattle.machine.specs.Refusals.{Call, start, hostRead, hostWrite, advance, takeFrame, deliver, refusal, refuseIf, frameFormed, ByteCall}
 use Rattle.machine.specs.Frames.{sending, receiving, frameWaits}
 use Rattle.machine.specs.Events.{Outcome, accepted, bufferOf}
 use Rattle.machine.proofs.Performing.{as-accepted}
@@ -115,9 +115,9 @@ module _ (c : Chip) (formed : chipFormed c ≡ true) where
   unfolding chipRefusal refusal
   write-refusal address v n e = let m = well-then _ ∙ e in (by-call (hostWrite address v) n m, m)
 
-  pub advance-refusal : (clocks n : ℕ) → refuseIf (ltb clockLimit clocks) 3 0 ≡ n → (chipRefusal c (advance clocks) ≡ n) × (refusal (view c) (advance clocks) ≡ n)
+  pub advance-refusal : (clocks : ℕ) → (chipRefusal c (advance clocks) ≡ 0) × (refusal (view c) (advance clocks) ≡ 0)
   unfolding chipRefusal refusal
-  advance-refusal clocks n e = let m = well-then _ ∙ e in (by-call (advance clocks) n m, m)
+  advance-refusal clocks = let m = well-then 0 in (by-call (advance clocks) 0 m, m)
 
   -- A take, by the room in the buffer and by whether a frame waits, which is judged of the core.
   module _ (buffer : List ℕ) where

@@ -29,7 +29,7 @@ fn latched() -> impl Iterator<Item = u8> {
 }
 
 /// A started chip's memory, with bytes in every array.
-fn started() -> Memory {
+pub fn started() -> Memory {
     let mut memory = Memory([0; SIZE]);
     let image = Image { fill: Fill::Keys, seed: 7, length: 512 }.bytes();
     // SAFETY: the chip is whole, and the image has its length.
@@ -55,7 +55,7 @@ struct Judge<const FAULT: u8> {
 }
 
 impl<const FAULT: u8> Judge<FAULT> {
-    /// Calls that are refused on any chip, with 7 where it is malformed; then a poll.
+    /// Calls that are refused on any chip, with 7 where it is malformed, and an advance by no clock, which leaves every chip; then a poll.
     fn judge(&mut self, mut memory: Memory) -> Result<(), String> {
         self.states += 1;
         let plain = plain_of::<FAULT>(memory.chip());
@@ -67,13 +67,13 @@ impl<const FAULT: u8> Judge<FAULT> {
             [
                 ("a read at 64", 1, library::mfrc531_read(chip, 64)),
                 ("a write at 64", 1, library::mfrc531_write(chip, 64, 0)),
-                ("an advance by 65,536", 3, library::mfrc531_advance(chip, 65_536)),
+                ("an advance by 0", 0, library::mfrc531_advance(chip, 0)),
                 ("a take into 65 bytes", 6, library::mfrc531_take(chip, buffer.as_mut_ptr(), buffer.len())),
                 ("a delivery of nothing", 5, library::mfrc531_deliver(chip, buffer.as_ptr(), 0, buffer.as_ptr(), 0, 0)),
             ]
         };
         if memory != before {
-            return Err(format!("a refused call has changed the chip: {}", self.line(&before)));
+            return Err(format!("a refused call, or an advance by 0, has changed the chip: {}", self.line(&before)));
         }
         let why = plain.as_ref().err().unwrap_or(&"well formed");
         let poll = match plain.clone() {
@@ -243,6 +243,8 @@ pub fn worked<const FAULT: u8>() -> Result<u64, String> {
     let calls = [
         Call::Advance { clocks: 1 },
         Call::Advance { clocks: 65_535 },
+        Call::Advance { clocks: 2 * PROGRAMMING_CLOCKS },
+        Call::Advance { clocks: u32::MAX },
         Call::Write { address: 0x01, byte: 0x00 },
         Call::Write { address: 0x01, byte: 0x01 },
         Call::Write { address: 0x01, byte: 0x12 },

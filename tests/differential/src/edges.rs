@@ -80,7 +80,7 @@ pub fn upper_halves() -> Result<(), String> {
             ("read 02h", read(chip, UPPER | 0x02), 0xA500),
             ("read 40h", read(chip, UPPER | 0x40), 1),
             ("advance 65,535", advance(chip, UPPER | 65_535), 0),
-            ("advance 65,536", advance(chip, UPPER | 65_536), 3),
+            ("advance 4,294,967,295", advance(chip, UPPER | 4_294_967_295), 0),
             ("write Receive", write(chip, UPPER | 0x01, UPPER | 0x16), 0),
             ("deliver with 8 last bits", deliver(chip, [1].as_ptr(), 1, [0].as_ptr(), 1, UPPER | 8), 5),
             ("deliver with 7 last bits", deliver(chip, [1].as_ptr(), 1, [0].as_ptr(), 1, UPPER | 7), 0),

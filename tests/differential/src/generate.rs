@@ -34,6 +34,8 @@ pub struct Generator {
 }
 
 const COMMANDS: [u8; 10] = [0x00, 0x01, 0x03, 0x07, 0x0B, 0x12, 0x16, 0x19, 0x1A, 0x1E];
+/// Clocks of a programming, to be added to others.
+const PROGRAMMING: i64 = PROGRAMMING_CLOCKS as i64;
 const STAGES: [u8; 12] = [0x00, 0x01, 0x41, 0x03, 0x07, 0x0B, 0x12, 0x19, 0x5A, 0x96, 0x5E, 0x9E];
 const SETTINGS: [u8; 8] = [0x0F, 0x22, 0x23, 0x24, 0x29, 0x2A, 0x2B, 0x2C];
 const EDGES: [u16; 28] = [
@@ -116,9 +118,6 @@ impl Generator {
             Step::TimerEnd(more) => {
                 let run = chip.timer.run?;
                 let left = (i64::from(chip.timer.value) << run.prescaler) - i64::from(run.phase);
-                if left > 1_000_000 {
-                    return Some(Call::Advance { clocks: random.of(&[65_535, 65_534, 32_768]) });
-                }
                 Some(self.clocks(left + more, Step::TimerEnd(more)))
             }
             Step::Deliver => Some(self.frame(chip)),
@@ -127,13 +126,13 @@ impl Generator {
 
     /// So many clocks, or a first part of them with the step again behind it.
     fn clocks(&mut self, clocks: i64, again: Step) -> Call {
-        let clocks = clocks.max(0);
-        if clocks <= 65_535 {
-            return Call::Advance { clocks: clocks as u32 };
+        let clocks = clocks.clamp(0, u32::MAX.into()) as u32;
+        if clocks < 2 || !self.random.one_in(4) {
+            return Call::Advance { clocks };
         }
         self.plan.push_front(again);
-        let part = self.random.of(&[65_535, 65_535, 40_000, clocks - 65_535]);
-        Call::Advance { clocks: part as u32 }
+        let part = self.random.of(&[1, 65_535, clocks / 2, clocks - 1]);
+        Call::Advance { clocks: part.min(clocks - 1) }
     }
 
     /// A call out of line.
@@ -144,7 +143,7 @@ impl Generator {
             4..=7 => Call::Write { address: random.byte() & 0x3F, byte: random.byte() },
             8 => Call::Read { address: random.of(&[63, 64, 65, 127, 128, 255, 0x42]) },
             9 => Call::Write { address: random.of(&[63, 64, 65, 127, 128, 255, 0x42]), byte: random.byte() },
-            10 => Call::Advance { clocks: random.of(&[0, 1, 2, 65_535, 65_536, 65_537, 131_072, 1 << 24, u32::MAX]) },
+            10 => Call::Advance { clocks: random.of(&[0, 1, 2, 65_535, 65_536, 78_648, 131_072, 235_944, 1 << 24, u32::MAX, random.clone().number() as u32]) },
             11 => Call::Advance { clocks: random.below(66_000) as u32 },
             12 | 13 => self.take(),
             14 => {
@@ -360,7 +359,7 @@ impl Generator {
                         1 => self.plan.push_back(Step::Get(0x0C)),
                         2 => self.set(0x09, 0x04),
                         _ => {
-                            let clocks = self.random.of(&[0, 1, 1, 2, 3, 5, 8, 64, 1000, 65_535]);
+                            let clocks = self.random.of(&[0, 1, 1, 2, 3, 5, 8, 64, 1000, 65_535, 1 << 31, u32::MAX]);
                             self.call(Call::Advance { clocks });
                         }
                     }
@@ -404,7 +403,7 @@ impl Generator {
                 key[held.min(11)..].iter().for_each(|&byte| self.set(0x02, byte));
             }
             Command::WriteE2(Writing::Programming { .. }) => {
-                let more = self.random.of(&[-1, 0, 0, 1]);
+                let more = self.random.of(&[-1, 0, 0, 1, 3 * PROGRAMMING, 1 << 32]);
                 self.plan.push_back(Step::ProgrammingEnd(more));
             }
             Command::WriteE2(Writing::Ready { .. }) | Command::CalcCrc => {
@@ -439,7 +438,7 @@ impl Generator {
         for _ in 0..self.random.below(5) {
             match self.random.below(10) {
                 0..=5 => {
-                    let more = self.random.of(&[-1, -1, 0, 0, 0, 1, 5]);
+                    let more = self.random.of(&[-1, -1, 0, 0, 0, 1, 5, PROGRAMMING - 1, PROGRAMMING, 2 * PROGRAMMING, 5 * PROGRAMMING]);
                     self.plan.push_back(Step::ProgrammingEnd(more));
                     if more < 0 {
                         self.call(Call::Advance { clocks: 1 });

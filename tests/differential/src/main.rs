@@ -5,6 +5,7 @@ mod built;
 mod call;
 mod checksum;
 mod chip_memory;
+mod clocks;
 mod edges;
 mod generate;
 mod library;
@@ -33,9 +34,10 @@ const NONE: u8 = plain::fault::NONE;
 const USAGE: &str = "differential [--calls N] [--seed S] [--break N|all] [--random] [--trace] | --replay FILE | --race | --mixes | --count CHIP KIND ROUNDS";
 
 /// Lists written by hand, run before the random ones.
-const DIRECTED: [(&str, &str); 4] = [
+const DIRECTED: [(&str, &str); 5] = [
     ("numbers", include_str!("../lists/numbers.txt")),
     ("memory", include_str!("../lists/memory.txt")),
+    ("clocks", include_str!("../lists/clocks.txt")),
     ("frames", include_str!("../lists/frames.txt")),
     ("refusals", include_str!("../lists/refusals.txt")),
 ];
@@ -182,11 +184,18 @@ fn compare(options: &Options) -> bool {
             return false;
         }
     };
+    let parts = match clocks::in_parts(options.seed, options.calls / 20) {
+        Ok(advances) => advances,
+        Err(message) => {
+            println!("DIFFERENCE (seed {}) of clocks in parts: {message}", options.seed);
+            return false;
+        }
+    };
     match run::<NONE>(options) {
         Ok(statistics) => {
             println!(
-                "No difference, {:.1} s. {statistics}; besides, {} built states judged and {} calls on such, {profiles} profile checks and \
-                 choices, {checksums} checksums over slices",
+                "No difference, {:.1} s. {statistics}; besides, {} built states judged and {} calls on such, {parts} advances at once and in \
+                 parts, {profiles} profile checks and choices, {checksums} checksums over slices",
                 begin.elapsed().as_secs_f64(),
                 built.0,
                 built.1
@@ -392,7 +401,7 @@ fn notice(fault: u8, options: &Options) -> bool {
             }
         };
     }
-    let (failure, shrink, show) = planted!(1 2 3 4 5 6 7 8 9 10 11 12 13 14 15 16 17 18 19 20 21 22 23 24 25 26 27);
+    let (failure, shrink, show) = planted!(1 2 3 4 5 6 7 8 9 10 11 12 13 14 15 16 17 18 19 20 21 22 23 24 25 26 27 28 29 30 31);
     let name = plain::fault::NAMES[usize::from(fault) - 1];
     match failure {
         Some(failure) => {

@@ -46,9 +46,13 @@ pub mod fault {
     pub const EMPTY_FIFO_IS_SENT: u8 = 25;
     pub const HELD_BYTES_HIDE_RECEPTION: u8 = 26;
     pub const RECEPTION_IS_PREPARED: u8 = 27;
+    pub const LAP_OF_RELOAD_AND_ONE: u8 = 28;
+    pub const REQUEST_MISSED_AT_ITS_STEP: u8 = 29;
+    pub const SECOND_PROGRAMMING_LOST: u8 = 30;
+    pub const CLOCKS_IN_32_BITS: u8 = 31;
 
     /// What the faults are, from 1 on.
-    pub const NAMES: [&str; 27] = [
+    pub const NAMES: [&str; 31] = [
         "WaterLevel is off by one",
         "a Command write clears FIFOOvfl",
         "an overflow drops the oldest byte",
@@ -76,6 +80,10 @@ pub mod fault {
         "ModemState is TxData with an empty FIFO",
         "ModemState is Idle while bytes are held by a chip that receives",
         "ModemState is PrepareRx while the chip receives",
+        "a restarting timer goes round TimerReload + 1",
+        "TimerIRq is missed where the steps of an advance equal the value",
+        "the clocks behind the first programming's end in an advance are lost",
+        "the phase and the clocks of an advance are added in 32 bits",
     ];
 }
 
@@ -85,7 +93,6 @@ pub mod fault {
 pub enum Refusal {
     AddressAbove63 = 1,
     ImageNot512Bytes = 2,
-    Over65535Clocks = 3,
     NotSendingOrReceiving = 4,
     FrameMalformed = 5,
     BufferUnder66Bytes = 6,
@@ -585,9 +592,6 @@ impl<const FAULT: u8> FaultyChip<FAULT> {
     /// An advance by clocks of 13.56 MHz. The timer and the programming see nothing of each other, so each jumps by itself.
     #[inline]
     pub fn advance(&mut self, clocks: u32) -> Result<(), Refusal> {
-        if clocks > 65_535 {
-            return Err(Refusal::Over65535Clocks);
-        }
         let before = self.alerts();
         self.advance_timer(clocks);
         self.advance_programming(clocks);
@@ -797,20 +801,22 @@ impl<const FAULT: u8> FaultyChip<FAULT> {
 
     fn advance_timer(&mut self, clocks: u32) {
         let Some(run) = &mut self.timer.run else { return };
-        let phase = run.phase + clocks;
+        let phase = u64::from(run.phase) + u64::from(clocks);
+        let phase = if FAULT == fault::CLOCKS_IN_32_BITS { phase & 0xFFFF_FFFF } else { phase };
         let steps = phase >> run.prescaler;
-        let value = u32::from(self.timer.value);
-        run.phase = phase & ((1 << run.prescaler) - 1);
-        if steps < value {
+        let value = u64::from(self.timer.value);
+        run.phase = phase as u32 & ((1 << run.prescaler) - 1);
+        if steps < value || FAULT == fault::REQUEST_MISSED_AT_ITS_STEP && steps == value {
             self.timer.value = (value - steps) as u8;
             return;
         }
         // The value has come to its end, at least once: what remains of the steps runs through the reload value.
         self.requests |= request::TIMER;
         let restarts = self.registers[setting::TIMER_CLOCK] & 0x20 != 0;
-        let reload = u32::from(self.registers[setting::TIMER_RELOAD]);
+        let reload = u64::from(self.registers[setting::TIMER_RELOAD]);
         if restarts && reload != 0 {
-            self.timer.value = (reload - (steps - value) % reload) as u8;
+            let lap = if FAULT == fault::LAP_OF_RELOAD_AND_ONE { reload + 1 } else { reload };
+            self.timer.value = (reload - (steps - value) % lap) as u8;
         } else {
             self.timer = Timer { value: 0, run: None };
         }
@@ -823,6 +829,9 @@ impl<const FAULT: u8> FaultyChip<FAULT> {
                 return;
             }
             clocks -= left;
+            if FAULT == fault::SECOND_PROGRAMMING_LOST {
+                clocks = 0;
+            }
             // `latched` is at most 16 and all in one block, so only the end of the memory can be the end of the batch and 000h at once.
             let end = if next == 0 { EEPROM_SIZE } else { usize::from(next) };
             let count = usize::from(latched);

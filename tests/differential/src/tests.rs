@@ -41,13 +41,8 @@ impl Chip {
         (0..self.get(FIFO_LENGTH)).map(|_| self.get(FIFO_DATA)).collect()
     }
 
-    /// More clocks than one call may have.
-    fn pass(&mut self, mut clocks: u32) {
-        while clocks > 0 {
-            let part = clocks.min(65_535);
-            self.advance(part).unwrap();
-            clocks -= part;
-        }
+    fn pass(&mut self, clocks: u32) {
+        self.advance(clocks).unwrap();
     }
 }
 
@@ -471,7 +466,7 @@ fn refusals() {
     let mut chip = chip();
     assert_eq!(chip.read(64), Err(Refusal::AddressAbove63));
     assert_eq!(chip.write(64, 0), Err(Refusal::AddressAbove63));
-    assert_eq!(chip.advance(65_536), Err(Refusal::Over65535Clocks));
+    assert_eq!(chip.advance(65_536), Ok(()));
     assert_eq!(chip.take(&mut [0; 65]), Err(Refusal::BufferUnder66Bytes));
     for (bytes, parities, last_bits) in [(0, 0, 0), (65, 65, 0), (2, 1, 0), (1, 1, 8)] {
         assert_eq!(chip.deliver(&vec![0; bytes], &vec![0; parities], last_bits), Err(Refusal::FrameMalformed));

@@ -2,7 +2,7 @@
 use crate::output::{complain, Output};
 use crate::posted::{bytes_of_file, plain, quoted, Fault, Form};
 use crate::registers::{asked_in_words, command_named, digits, in_words, linear_copy, named, reached};
-use crate::waveform::Waveform;
+use crate::waveform::{clocks_to_change, timer_steps, Waveform};
 use crate::Ended;
 use mfrc531::bits::{channel_redundancy, page};
 use mfrc531::{shipped_image, Chip, Refusal, Register};
@@ -16,15 +16,15 @@ use std::path::Path;
 const MOST_IN_LINE: u64 = 4096;
 /// How many calls the history keeps.
 const MOST_IN_HISTORY: usize = 10_000;
-/// Clocks that an advance may have.
-const MOST_CLOCKS: u32 = 65_535;
+/// Timer steps that a waveform takes of one advance: some 25 megabytes of it.
+const MOST_STEPS: u64 = 1_000_000;
 
 pub const HELP: &str = "\
 start [IMAGE]               a start, from the shipped image or from a file: an image of 512 bytes, or a profile of 32, which is put
                             at 10h-2Fh of an image of zeros
 read REGISTER               a host read; a read of FIFOData removes the byte
 write REGISTER BYTE         a host write; for Command the byte may be a command's name
-advance CLOCKS              so many clocks pass, at most 65535
+advance CLOCKS              so many clocks pass, 0 to 4294967295
 take [LENGTH [FILL]]        takes the frame that the chip sends, into a buffer of LENGTH bytes (66), filled with FILL (00)
 deliver BYTES.. [parity VALUES..] [bits N]
                             a frame that the chip receives; parity: 0 or 1 for each byte, without it those that ChannelRedundancy asks;
@@ -317,23 +317,29 @@ impl Bench<'_> {
 
     fn advance(&mut self, word: &str) -> Result<(), Stop> {
         let clocks: u32 = number_of(word)?;
+        let steps = timer_steps(&self.chip, clocks);
+        if self.waveform.is_some() && steps > MOST_STEPS {
+            return Err(format!("advance {clocks} makes {steps} timer steps, and a waveform takes {MOST_STEPS} of one advance").into());
+        }
         self.call(&format!("advance {clocks}"), |bench| {
-            if bench.waveform.is_some() && clocks <= MOST_CLOCKS {
-                // So many clocks are so many times one clock; the waveform has to see each.
-                for _ in 0..clocks {
-                    if let Err(refusal) = bench.chip.advance(1) {
-                        return Ok(Err(refusal));
-                    }
-                    bench.clock += 1;
-                    if let Some((waveform, _)) = &mut bench.waveform {
-                        waveform.sample(bench.clock, &bench.chip).map_err(Stop::Waveform)?;
-                    }
+            let mut rest = clocks;
+            // Clocks in parts are the same clocks; the waveform has to see each change.
+            while let Some((waveform, _)) = &mut bench.waveform {
+                let part = clocks_to_change(&bench.chip).min(rest);
+                if part == rest {
+                    break;
                 }
-            } else if let Err(refusal) = bench.chip.advance(clocks) {
-                return Ok(Err(refusal));
-            } else {
-                bench.clock += u64::from(clocks);
+                if let Err(refusal) = bench.chip.advance(part) {
+                    return Ok(Err(refusal));
+                }
+                rest -= part;
+                bench.clock += u64::from(part);
+                waveform.sample(bench.clock, &bench.chip).map_err(Stop::Waveform)?;
             }
+            if let Err(refusal) = bench.chip.advance(rest) {
+                return Ok(Err(refusal));
+            }
+            bench.clock += u64::from(rest);
             Ok(Ok(moment(bench.clock)))
         })
     }

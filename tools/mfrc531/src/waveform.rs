@@ -1,6 +1,7 @@
 //! A waveform of a chip over clocks, as a value change dump (IEEE 1364) that GTKWave shows.
 use crate::registers::linear_copy;
 use mfrc531::bits::primary_status::{MODEM_STATE, MODEM_STATE_SHIFT};
+use mfrc531::bits::timer_clock::T_AUTO_RESTART;
 use mfrc531::{Chip, Register};
 use std::fs::File;
 use std::io::{self, BufWriter, Write};
@@ -44,6 +45,29 @@ impl Seen {
 fn modem_state(chip: &Chip) -> u8 {
     let status = linear_copy(chip).read(Register::PrimaryStatus).unwrap_or(0);
     (status & MODEM_STATE) >> MODEM_STATE_SHIFT
+}
+
+/// Clocks up to which no signal changes: those of the timer's step and of the programming, whichever ends first.
+pub fn clocks_to_change(chip: &Chip) -> u32 {
+    let memory = chip.memory();
+    let step = if memory.timer_running == 0 { u32::MAX } else { (1 << memory.timer_prescaler) - memory.timer_phase };
+    let programming = if memory.programming_left == 0 { u32::MAX } else { memory.programming_left };
+    step.min(programming)
+}
+
+/// Timer steps that so many clocks make.
+pub fn timer_steps(chip: &Chip, clocks: u32) -> u64 {
+    let memory = chip.memory();
+    if memory.timer_running == 0 {
+        return 0;
+    }
+    let steps = (u64::from(memory.timer_phase) + u64::from(clocks)) >> memory.timer_prescaler;
+    let [timer_clock, _, reload] = memory.registers[0x2A - 0x10..=0x2C - 0x10] else { return steps };
+    if timer_clock & T_AUTO_RESTART != 0 && reload != 0 {
+        steps
+    } else {
+        steps.min(memory.timer_value.into())
+    }
 }
 
 pub struct Waveform {

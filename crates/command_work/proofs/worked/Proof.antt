@@ -12,7 +12,8 @@ use Rattle.state.specs.Lent.{assembled, clocksNumbersState}
 use Rattle.state.proofs.RingLaws.{count-length}
 use Rattle.state.proofs.TurnLaws.{stays, then, becomes}
 use Rattle.command_arguments.proofs.ArgumentLaws.{all-held}
-use Rattle.command_work.proofs.SettleLaws.{settled-rests, settled-ends, settled-sums, settled-writes, settled-waits, settled-addresses, others-rest, at-addressing, at-ready, programs-first, programs-on}
+use Rattle.machine.proofs.Settling.{settled-writes}
+use Rattle.command_work.proofs.SettleLaws.{settled-rests, settled-ends, settled-sums, settled-waits, settled-addresses, others-rest, at-addressing, at-ready, programs-first, programs-on}
 use borrow.Author.Needs.{needs}
 use Rattle.command_work.proofs.worked.Statement.{statement}
 use Rattle.command_work.proofs.worked.Tie as tie

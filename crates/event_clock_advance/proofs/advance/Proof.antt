@@ -1,18 +1,17 @@
 -- `event_clock_advance::advance` meets its contract, by the refusals in their order. Assumes nothing.
 use denote.Ref.{now}
-use native.Mathlib.Omega.{arith}
-use mathlib.Core.Path.{_≡_, refl, sym, ap, _∙_}
-use mathlib.Core.Bool.{Bool, true}
+use mathlib.Core.Path.{_≡_, refl, sym, _∙_}
+use mathlib.Core.Bool.{true}
 use mathlib.Core.List.{[]}
 use mathlib.Core.Logic.{⊎-elim}
-use borrow.Author.Tests.{lt-ltb, le-ltb, not-true, not-false}
-use Rattle.machine.specs.Refusals.{advance, refuseIf, clockLimit}
+use borrow.Author.Tests.{not-true, not-false}
+use Rattle.machine.specs.Refusals.{advance}
 use Rattle.state.specs.View.{viewOf}
 use Rattle.state.specs.Formed.{chipFormed}
 use Rattle.state.specs.Lent.{assembled}
 use Rattle.state.specs.Meets.{Whole}
 use Rattle.state.specs.declared.Chip.{Chip}
-use Rattle.state.proofs.MeetLaws.{refused, malformed, advance-refusal, own-fields-formed, machine-formed, accepted-here}
+use Rattle.state.proofs.MeetLaws.{malformed, advance-refusal, own-fields-formed, machine-formed, accepted-here}
 use Rattle.state_formed.proofs.ClauseLaws.{usual-formed}
 use borrow.Author.Needs.{needs}
 use Rattle.event_clock_advance.proofs.advance.Statement.{statement}
@@ -45,30 +44,23 @@ returns c whole =
     let old = at-entry s in
     malformed old (advance (s .args .by)) tt (sym (c .before .formed .ensures old (whole .sizes)) ∙ not-true _ (c .if2 .taken)) whole
 
-returns-2 : tie.Need-returns-2
-returns-2 c whole =
-    let s = began (c .before) in
-    refused (at-entry s) (advance (s .args .by)) 2
-    (advance-refusal (at-entry s) (well-formed (c .before) whole) (s .args .by) 3 (ap (λ (t : Bool). refuseIf t 3 0) (lt-ltb clockLimit (s .args .by) (omega (arith, c .if3 .taken)))) .0) whole
-
 advanced-requires : tie.Need-advanced-requires
 advanced-requires c κs = search needs
 
-returns-3 : tie.Need-returns-3
+returns-2 : tie.Need-returns-2
 unfolding viewOf
-returns-3 c whole =
+returns-2 c whole =
     let past = c .before .before .before .before .before .before in
-    let s = began (past .before) in
+    let s = began past in
     let a = s .args in
     let old = at-entry s in
-    let formed = well-formed (past .before) whole in
+    let formed = well-formed past whole in
     let agrees = own-fields-formed old formed in
     let after = c .advanced .last in
     let next = assembled (after .0) (after .1 .0) (after .1 .1 .0) (now (a .registers)) (now (a .slots)) (after .1 .1 .1 .1 .1 .0) (now (a .key)) (after .1 .1 .1 .1 .1 .1 .0) in
     let runs = c .advanced .ensures old (whole .sizes) agrees (machine-formed old formed whole) in
-    accepted-here old formed (advance (a .by)) next 0 [] tt whole
-    (advance-refusal old formed (a .by) 0 (ap (λ (t : Bool). refuseIf t 3 0) (le-ltb clockLimit (a .by) (omega (arith, past .if3 .left)))))
+    accepted-here old formed (advance (a .by)) next 0 [] tt whole (advance-refusal old formed (a .by))
     (record { answered = refl; turned = runs .machine; lent = refl; fields = runs .fields agrees; sizes = runs .sizes })
 
 pub advance-spec : {M : Type 1} → statement M
-advance-spec = tie.close (tie.spec quick-requires formed-requires returns returns-2 advanced-requires returns-3)
+advance-spec = tie.close (tie.spec quick-requires formed-requires returns advanced-requires returns-2)

@@ -1,7 +1,6 @@
 -- The single-clock rule holds: a clock does not read the alert requests, and each alert flag turns at most once within an advance.
 -- Assumes nothing.
 use Prim.Native.Nat.{ℕ, zero, suc, _+_, _-_}
-use native.Mathlib.Nat.{zero-add, suc-add}
 use native.Mathlib.Omega.{arith}
 use mathlib.Core.Path.{_≡_, refl, sym, ap, _∙_}
 use mathlib.Core.Bool.{Bool, true, false, not, _&&_, _||_, or-false, not-and-self}
@@ -11,6 +10,7 @@ use Rattle.machine.specs.State.{Machine}
 use Rattle.machine.specs.Fifo.{loAlert, hiAlert, alerted, waterLevel}
 use Rattle.machine.specs.Events.{clock, clocks, advanced}
 use Rattle.machine.specs.SingleClock.{singly, SingleClockRule}
+use Rattle.machine.proofs.ManyClocks.Pieces.{in-parts}
 use Rattle.machine.proofs.SingleClock.Laws.{requesting, raising, once, Calm, clocks-calm}
 
 -- Fewer held bytes against the same WaterLevel.
@@ -37,12 +37,6 @@ none : (m : Machine) → advanced 0 m ≡ m
 unfolding advanced clocks alerted
 none m = simp (not-and-self, or-false)
 
--- The clocks of a sum are those of its parts, one after the other.
-clocks-sum : (a b : ℕ) (m : Machine) → clocks (a + b) m ≡ clocks b (clocks a m)
-unfolding clocks
-clocks-sum zero b m = rw zero-add
-clocks-sum (suc a) b m = rw suc-add (clocks-sum a b (clock m))
-
 -- The alerts judged from m to x and then from x to y, by flags of which LoAlert only rises and HiAlert only falls, are those judged from m to y.
 joined : (m x y : Machine) → (hiAlert m ≡ false → hiAlert x ≡ false) → (hiAlert x ≡ false → hiAlert y ≡ false) →
     (loAlert m ≡ true → loAlert x ≡ true) → (loAlert x ≡ true → loAlert y ≡ true) →
@@ -59,7 +53,7 @@ sums : (a b : ℕ) (m : Machine) → advanced (a + b) m ≡ advanced b (advanced
 unfolding advanced alerted
 sums a b m =
     let x = clocks a m in
-    ap (alerted m) (clocks-sum a b m)
+    ap (alerted m) (in-parts a b m)
     ∙ joined m x (clocks b x) (hi-falls a m) (hi-falls b x) (lo-rises a m) (lo-rises b x)
     ∙ sym (ap (alerted (advanced a m)) (clocks-calm (not (hiAlert m) && hiAlert x) (not (loAlert m) && loAlert x) b x .raised))
 

@@ -1,14 +1,15 @@
 -- A machine's parts, each with what being well formed asks of it. An operation proves only the parts that it changes.
 -- Assumes nothing.
 use Prim.Native.Nat.{ℕ, _≤_}
-use mathlib.Core.Path.{_≡_, refl}
+use mathlib.Core.Path.{_≡_, refl, sym, ap, _∙_}
 use mathlib.Core.Bool.{Bool, true, false, cond, _&&_, false≢true}
 use mathlib.Core.List.{List}
+use lib.Dec.{leb}
 use lib.ListN.{length}
 use native.Mathlib.Omega.{arith}
 use borrow.Author.Tests.{leb-true, le-leb}
 use Rattle.bits.specs.Bits.{Bytes}
-use Rattle.machine.specs.State.{Machine, Command, Timer, Checksum}
+use Rattle.machine.specs.State.{Machine, Command, Timer, Checksum, WriteE2, programming}
 use Rattle.machine.specs.WellFormed.{fifoFormed, nothingPends, timerFormed, commandFormed, checksumFormed, bitsFormed, waits, latchedBytes, wellFormed}
 use Rattle.machine.specs.WellFormedness.{Formed}
 
@@ -19,6 +20,24 @@ both {a} {b} p q = rw (p, q)
 pub each : (a b : Bool) → (a && b) ≡ true → (a ≡ true) × (b ≡ true)
 each true b h = (refl, h)
 each false b h = absurd (false≢true h)
+
+-- What a machine that is well formed has of it: at most 64 bytes held, a timer and a command that are formed.
+module _ (m : Machine) (well : wellFormed m ≡ true) where
+  pub well-held : length (m .held) ≤ 64
+  unfolding wellFormed
+  well-held = leb-true (length (m .held)) 64 (each (fifoFormed (m .held)) _ well .0)
+
+  pub well-timer : timerFormed (m .timer) ≡ true
+  unfolding wellFormed
+  well-timer = each (timerFormed (m .timer)) _ (each (fifoFormed (m .held)) _ well .1) .0
+
+  pub well-command : commandFormed (m .command) ≡ true
+  unfolding wellFormed
+  well-command = each (commandFormed (m .command)) _ (each (timerFormed (m .timer)) _ (each (fifoFormed (m .held)) _ well .1) .1) .0
+
+  -- a programming has a clock left
+  pub some-left : (a left : ℕ) (bs : List ℕ) → m .command ≡ WriteE2 (programming a bs left) → 1 ≤ left
+  some-left a left bs is = leb-true 1 left (each (leb 1 left) _ (sym (ap commandFormed is) ∙ well-command) .0)
 
 -- The active command is formed, and the bytes that it latched are bytes.
 pub record Active (c : Command) : Type 0 where

@@ -6,10 +6,10 @@ use mathlib.Core.Path.{_≡_, sym, ap, _∙_}
 use mathlib.Core.Bool.{true}
 use lib.ListN.{length, set, take}
 use borrow.Author.Tests.{ltb-true}
-use Rattle.machine.specs.State.{ready}
+use Rattle.machine.specs.State.{Command, ready, whileProgramming}
 use Rattle.machine.specs.Commands.{writeStepped}
-use Rattle.machine.specs.Events.{batchStored}
-use Rattle.state.specs.View.{at, batchStart, view, viewOf}
+use Rattle.machine.specs.Events.{batchStored, programmed}
+use Rattle.state.specs.View.{at, batchStart, core, view, viewOf}
 use Rattle.state.specs.Lent.{clocksNumbersStateSlotsLatchEeprom}
 use Rattle.state.specs.Formed.{batchFits, fieldsFormed}
 use Rattle.state.specs.Turns.{Sizes, Turned}
@@ -17,8 +17,8 @@ use Rattle.state.specs.declared.Chip.{Chip}
 use Rattle.state.proofs.RingLaws.{count-length}
 use Rattle.state.proofs.StoreLaws.{next-near}
 use Rattle.state.proofs.TurnLaws.{then, becomes}
-use Rattle.event_clock_advance.specs.Clock.{storedWrapped, ends}
-use Rattle.event_clock_advance.proofs.BatchLaws.{batch-few, batch-inside, batch-next, batch-turns, end-waits, end-latches, wrapped-fits, wrapped-whole}
+use Rattle.event_clock_advance.specs.Clock.{storedWrapped, ended}
+use Rattle.event_clock_advance.proofs.BatchLaws.{batch-few, batch-inside, batch-next, batch-turns, end-waits, end-latches, wrapped-fits, wrapped-whole, programs-here, is-programming}
 use borrow.Author.Needs.{needs}
 use Rattle.event_clock_advance.proofs.programming.programmed.Statement.{statement}
 use Rattle.event_clock_advance.proofs.programming.programmed.Tie as tie
@@ -82,38 +82,50 @@ stored copy fits chip sizes formed =
     (copied ∙ wrapped-fits eeprom latch start (latched copy) (sizes .latch-count) (batch-few (next copy) (latched copy) fits near) (batch-inside (next copy) (latched copy) fits near))
     (ap length copied ∙ wrapped-whole eeprom latch start (latched copy) ∙ sizes .eeprom-count) chip sizes
 
+-- The programming that ends is that of these bytes.
+is-ended : (copy : tie.After-store-batch) (chip : Chip) → fieldsFormed (at-entry copy chip) ≡ true → (at (now (began copy .args .clocks)) 1 ≡ 0 → ⊥) →
+    let m = view (at-entry copy chip) in ended m ≡ programmed (batchStart (next copy) (latched copy)) (take (latched copy) (now (began copy .args .latch))) m
+unfolding viewOf
+is-ended copy chip formed some =
+    let old = at-entry copy chip in
+    let (writing, fits) = programs-here old formed some in
+    ap (λ (d : Command). whileProgramming (λ a bs left. programmed a bs (view old)) (view old) d) (is-programming (core old) (now (began copy .args .latch)) writing some)
+
 returns : tie.Need-returns
 unfolding viewOf
-returns c fits chip sizes formed well =
+returns c some chip sizes formed =
     let empty = c .before .before in
     let copy = empty .before in
     let a = began copy .args in
     let latch = now (a .latch) in
     let m = view (at-entry copy chip) in
+    let (writing, fits) = programs-here (at-entry copy chip) formed some in
     let stores = stored copy fits chip sizes formed in
     let none = sym (count-length (copy .before .before .before .before .before .held .ensures) (now (a .slots))) ∙ empty .if1 .taken in
-    becomes (ends (next copy) (latched copy) latch) (then stores (c .requested .ensures (done copy chip) (stores .sizes)))
-    (end-waits (batchStart (next copy) (latched copy)) (take (latched copy) latch) m none)
+    becomes ended (then stores (c .requested .ensures (done copy chip) (stores .sizes)))
+    (end-waits (batchStart (next copy) (latched copy)) (take (latched copy) latch) m none ∙ sym (is-ended copy chip formed some))
 
 bytes-latched-requires : tie.Need-bytes-latched-requires
 bytes-latched-requires c κs = search needs
 
 returns-2 : tie.Need-returns-2
 unfolding viewOf
-returns-2 c fits chip sizes formed well =
-    let some = c .before .before .before .before .before in
-    let copy = some .before in
+returns-2 c some chip sizes formed =
+    let waits = c .before .before .before .before .before in
+    let copy = waits .before in
     let a = began copy .args in
     let latch = now (a .latch) in
     let m = view (at-entry copy chip) in
     let bytes = take (latched copy) latch in
     let start = batchStart (next copy) (latched copy) in
     let near = ltb-true (next copy) 0x200 (next-near (at-entry copy chip) formed) in
+    let (writing, fits) = programs-here (at-entry copy chip) formed some in
     let stores = stored copy fits chip sizes formed in
     let count = count-length (copy .before .before .before .before .before .held .ensures) (now (a .slots)) in
-    becomes (ends (next copy) (latched copy) latch) (then stores (c .bytes-latched .ensures (done copy chip) (stores .sizes)))
+    becomes ended (then stores (c .bytes-latched .ensures (done copy chip) (stores .sizes)))
     (ap (λ (n : ℕ). writeStepped (ready n) (batchStored start bytes m)) (batch-next (next copy) (latched copy) fits near latch (sizes .latch-count))
-    ∙ end-latches start bytes m (λ none. some .if1 .left (count ∙ none)))
+    ∙ end-latches start bytes m (λ none. waits .if1 .left (count ∙ none))
+    ∙ sym (is-ended copy chip formed some))
 
 pub programmed-spec : {M : Type 1} → statement M
 programmed-spec =

@@ -1,72 +1,158 @@
--- `event_clock_advance::timer::timer_clocked` meets its contract: a timer that rests, one that counts, and one that steps. Assumes nothing.
+-- `event_clock_advance::timer::timer_clocked` meets its contract: a timer that rests, one whose value falls, one that goes round TimerReload, and one that stops. Assumes nothing.
 use denote.Ref.{now}
-use Prim.Native.Nat.{_+_, _%_, _^_, _<_, _≤_}
-use native.Mathlib.Omega.{arith}
-use borrow.Author.Tests.{eq-eqb, ne-eqb}
-use Rattle.state.specs.View.{at, view, viewOf}
-use Rattle.state.specs.Lent.{clocksStateRegisters}
-use Rattle.state.proofs.TurnLaws.{stays, becomes}
-use Rattle.event_clock_advance.specs.Clock.{clocksTimer}
-use Rattle.event_clock_advance.proofs.TimerLaws.{counts-on, clock-counts, clock-steps, clock-stays}
+use Prim.Native.Nat.{ℕ}
+use mathlib.Core.Path.{refl, sym, ap, _∙_}
+use lib.Dec.{lit<}
+use lib.ListN.{set}
 use borrow.Author.Needs.{needs}
+use borrow.Author.Tests.{eq-eqb, ne-eqb, leb-true, leb-false, not-true, not-false}
+use Rattle.bits.specs.Bits.{bitSet}
+use Rattle.machine.specs.Timer.{raisedTimer}
+use Rattle.machine.specs.ManyClocks.{timerAfter}
+use Rattle.machine.proofs.WellFormed.Parts.{well-timer}
+use Rattle.machine.proofs.ManyClocks.Timer.{goes-round}
+use Rattle.state.specs.View.{at, view, viewOf}
+use Rattle.state.specs.Lent.{clocksState, clocksStateRegisters}
+use Rattle.state.specs.declared.Chip.{Chip}
+use Rattle.state.proofs.StoreLaws.{set-byte}
+use Rattle.state.proofs.TurnLaws.{stays, then, becomes}
+use Rattle.event_clock_advance.proofs.TimerLaws.{goesOn, valueGone, formed-fits, goes-on, after-rests, after-falls, after-restarts, after-stops}
 use Rattle.event_clock_advance.proofs.timer.timer_clocked.Statement.{statement}
 use Rattle.event_clock_advance.proofs.timer.timer_clocked.Tie as tie
+
+-- Where the steps are judged: where the function began, and the chip then.
+abbrev began : tie.After-comes-to-end → tie.Start
+began asked = asked .before .before .before .before .before .before .before .before
+
+abbrev at-entry : tie.Start → Chip → Chip
+at-entry s = let a = s .args in clocksStateRegisters (now (a .clocks)) (now (a .state)) (now (a .registers))
 
 element-copy-out-if1 : tie.Need-element-copy-out-if1
 element-copy-out-if1 c = search needs
 
 returns : tie.Need-returns
 unfolding viewOf
-returns c chip sizes =
-    let a = c .before .before .args in
-    let old = clocksStateRegisters (now (a .clocks)) (now (a .state)) (now (a .registers)) chip in
-    becomes clocksTimer (stays old sizes) (clock-stays (view old) (ne-eqb (at (now (a .state)) 8) 1 (c .if1 .taken)))
+returns c chip sizes formed well =
+    let s = c .before .before in
+    let old = at-entry s chip in
+    becomes (timerAfter (s .args .by)) (stays old sizes) (after-rests (view old) (s .args .by) (ne-eqb (at (now (s .args .state)) 8) 1 (c .if1 .taken)))
 
 element-copy-out-phase : tie.Need-element-copy-out-phase
 element-copy-out-phase c = search needs
 
-element-copy-out-period : tie.Need-element-copy-out-period
-element-copy-out-period c = search needs
+element-copy-out-prescaler : tie.Need-element-copy-out-prescaler
+element-copy-out-prescaler c = search needs
 
-period-requires : tie.Need-period-requires
-period-requires c κs = search needs
+element-copy-out-value : tie.Need-element-copy-out-value
+element-copy-out-value c = search needs
 
-sub-if2 : tie.Need-sub-if2
-sub-if2 c = search needs
+steps-made-requires : tie.Need-steps-made-requires
+steps-made-requires c κs = search needs
 
-add-clocks : tie.Need-add-clocks
-add-clocks c = search needs
+phase-after-requires : tie.Need-phase-after-requires
+phase-after-requires c κs = search needs
+
+comes-to-end-requires : tie.Need-comes-to-end-requires
+comes-to-end-requires c κs = search needs
 
 element-write-clocks : tie.Need-element-write-clocks
 element-write-clocks c = search needs
 
+fallen-requires : tie.Need-fallen-requires
+fallen-requires c κs = leb-false _ _ (sym (c .before .comes-to-end .ensures) ∙ not-true _ (c .if2 .taken))
+
+element-write-state : tie.Need-element-write-state
+element-write-state c = search needs
+
 returns-2 : tie.Need-returns-2
 unfolding viewOf
-returns-2 c chip sizes =
-    let asked = c .before in
-    let past = asked .before .before .before in
-    let a = past .before .before .args in
-    let old = clocksStateRegisters (now (a .clocks)) (now (a .state)) (now (a .registers)) chip in
-    let phase = at (now (a .clocks)) 0 in
-    let p = at (now (a .state)) 9 % 32 in
-    let more : phase + 1 < 2 ^ p = omega (arith, asked .period .ensures .0, c .if2 .taken) in
-    becomes clocksTimer (counts-on (now (a .clocks)) (now (a .state)) (phase + 1) old sizes) (clock-counts (view old) (eq-eqb (at (now (a .state)) 8) 1 (past .if1 .left)) more)
+returns-2 c chip sizes formed well =
+    let asked = c .before .before in
+    let a = began asked .args in
+    let old = at-entry (began asked) chip in
+    let below = leb-false _ _ (sym (asked .comes-to-end .ensures) ∙ not-true _ (c .before .if2 .taken)) in
+    let next = asked .before .phase-after .result in
+    becomes (timerAfter (a .by)) (goes-on (now (a .clocks)) (now (a .state)) (c .fallen .result) next old sizes)
+    (ap (λ (v : ℕ). goesOn v next (view old)) (c .fallen .ensures)
+    ∙ after-falls (view old) (a .by) (asked .before .before .steps-made .result) next (eq-eqb (at (now (a .state)) 8) 1 (asked .before .before .before .before .before .before .if1 .left))
+    (formed-fits (view old .timer) (well-timer (view old) (well .well))) (asked .before .before .steps-made .ensures) (asked .before .phase-after .ensures) below)
 
-timer-stepped-requires : tie.Need-timer-stepped-requires
-timer-stepped-requires c κs = search needs
+sub-reload : tie.Need-sub-reload
+sub-reload c = search needs
+
+element-copy-out-reload : tie.Need-element-copy-out-reload
+element-copy-out-reload c = search needs
+
+sub-restarts : tie.Need-sub-restarts
+sub-restarts c = search needs
+
+element-copy-out-restarts : tie.Need-element-copy-out-restarts
+element-copy-out-restarts c = search needs
+
+restarts-requires : tie.Need-restarts-requires
+restarts-requires c κs = search needs
+
+element-write-clocks-2 : tie.Need-element-write-clocks-2
+element-write-clocks-2 c = search needs
+
+gone-round-requires : tie.Need-gone-round-requires
+gone-round-requires c κs =
+    let ended = c .before .before .before .before in (
+      leb-true _ _ (sym (ended .before .comes-to-end .ensures) ∙ not-false _ (ended .if2 .left)),
+      goes-round (bitSet (at (now (began (ended .before) .args .registers)) 0x1A) 5) (at (now (began (ended .before) .args .registers)) 0x1C) (sym (c .before .restarts .ensures) ∙ c .if3 .taken),
+    )
+
+element-write-state-2 : tie.Need-element-write-state-2
+element-write-state-2 c = search needs
+
+requested-requires : tie.Need-requested-requires
+requested-requires c κs = search needs
 
 returns-3 : tie.Need-returns-3
 unfolding viewOf
-returns-3 c chip sizes =
-    let rests = c .before .before .before in
-    let asked = rests .before in
-    let past = asked .before .before .before in
-    let a = past .before .before .args in
-    let old = clocksStateRegisters (now (a .clocks)) (now (a .state)) (now (a .registers)) chip in
-    let phase = at (now (a .clocks)) 0 in
-    let p = at (now (a .state)) 9 % 32 in
-    let all : 2 ^ p ≤ phase + 1 = omega (arith, asked .period .ensures .0, rests .if2 .left) in
-    becomes clocksTimer (c .timer-stepped .ensures chip sizes) (clock-steps (view old) (eq-eqb (at (now (a .state)) 8) 1 (past .if1 .left)) all)
+returns-3 c chip sizes formed well =
+    let round = c .before .before in
+    let goes = round .before in
+    let ended = goes .before .before .before .before in
+    let asked = ended .before in
+    let a = began asked .args in
+    let old = at-entry (began asked) chip in
+    let all = leb-true _ _ (sym (asked .comes-to-end .ensures) ∙ not-false _ (ended .if2 .left)) in
+    let next = asked .before .phase-after .result in
+    let value = round .gone-round .result in
+    let stores = goes-on (now (a .clocks)) (now (a .state)) value next old sizes in
+    becomes (timerAfter (a .by)) (then stores (c .requested .ensures (clocksState (set (now (a .clocks)) 0 next) (set (now (a .state)) 15 value) old) (stores .sizes)))
+    (ap (λ (v : ℕ). raisedTimer (goesOn v next (view old))) (round .gone-round .ensures)
+    ∙ after-restarts (view old) (a .by) (asked .before .before .steps-made .result) next (eq-eqb (at (now (a .state)) 8) 1 (asked .before .before .before .before .before .before .if1 .left))
+    (formed-fits (view old .timer) (well-timer (view old) (well .well))) (asked .before .before .steps-made .ensures) (asked .before .phase-after .ensures) all
+    (sym (goes .before .restarts .ensures) ∙ goes .if3 .taken))
+
+timer-stopped-requires : tie.Need-timer-stopped-requires
+timer-stopped-requires c κs = search needs
+
+element-write-state-3 : tie.Need-element-write-state-3
+element-write-state-3 c = search needs
+
+requested-requires-2 : tie.Need-requested-requires-2
+requested-requires-2 c κs = search needs
+
+returns-4 : tie.Need-returns-4
+unfolding viewOf
+returns-4 c chip sizes formed well =
+    let stops = c .before .before in
+    let past = stops .before .before .before in
+    let ended = past .before .before .before .before in
+    let asked = ended .before in
+    let a = began asked .args in
+    let old = at-entry (began asked) chip in
+    let all = leb-true _ _ (sym (asked .comes-to-end .ensures) ∙ not-false _ (ended .if2 .left)) in
+    let stop = stops .timer-stopped .ensures old sizes in
+    let l = stops .timer-stopped .last .1 .0 in
+    let none = set-byte valueGone l 15 0 (clocksState (stops .timer-stopped .last .0) l old) (lit< tt) refl (stop .sizes) refl (λ bytes. refl) in
+    becomes (timerAfter (a .by)) (then (then stop none) (c .requested2 .ensures (clocksState (stops .timer-stopped .last .0) (set l 15 0) old) (none .sizes)))
+    (after-stops (view old) (a .by) (asked .before .before .steps-made .result) (asked .before .phase-after .result) (eq-eqb (at (now (a .state)) 8) 1 (asked .before .before .before .before .before .before .if1 .left))
+    (formed-fits (view old .timer) (well-timer (view old) (well .well))) (asked .before .before .steps-made .ensures) (asked .before .phase-after .ensures) all
+    (sym (past .before .restarts .ensures) ∙ past .if3 .left))
 
 pub timer-clocked-spec : {M : Type 1} → statement M
 timer-clocked-spec =
@@ -75,11 +161,26 @@ timer-clocked-spec =
     element-copy-out-if1
     returns
     element-copy-out-phase
-    element-copy-out-period
-    period-requires
-    sub-if2
-    add-clocks
+    element-copy-out-prescaler
+    element-copy-out-value
+    steps-made-requires
+    phase-after-requires
+    comes-to-end-requires
     element-write-clocks
+    fallen-requires
+    element-write-state
     returns-2
-    timer-stepped-requires
-    returns-3)
+    sub-reload
+    element-copy-out-reload
+    sub-restarts
+    element-copy-out-restarts
+    restarts-requires
+    element-write-clocks-2
+    gone-round-requires
+    element-write-state-2
+    requested-requires
+    returns-3
+    timer-stopped-requires
+    element-write-state-3
+    requested-requires-2
+    returns-4)

@@ -73,6 +73,24 @@ static void pass_clocks(void)
         done(mfrc531_advance(&chip, 1));
 }
 
+static void pass_thousands(void)
+{
+    for (int i = 0; i < 1000; i++)
+        done(mfrc531_advance(&chip, 1000));
+}
+
+static void pass_single_clocks(void)
+{
+    for (int i = 0; i < 1000; i++)
+        done(mfrc531_advance(&chip, 1));
+}
+
+static void pass_most_clocks(void)
+{
+    for (int i = 0; i < 1000; i++)
+        done(mfrc531_advance(&chip, MFRC531_MOST_CLOCKS));
+}
+
 /* What a driver does for a command, as in the race of tests/differential. */
 static void drive(void)
 {
@@ -147,6 +165,13 @@ static void run_timer(void)
     put(MFRC531_REG_CONTROL, MFRC531_T_START_NOW);
 }
 
+static void run_to_ends(void)
+{
+    put(MFRC531_REG_TIMER_RELOAD, 1);
+    put(MFRC531_REG_TIMER_CLOCK, MFRC531_T_AUTO_RESTART); /* a step each clock, which is an end */
+    put(MFRC531_REG_CONTROL, MFRC531_T_START_NOW);
+}
+
 static const struct { const char *kind; void (*prepare)(void), (*round)(void); } kinds[] = {
     {"recorded-mix", record, play},
     {"driver-mix", nothing, drive},
@@ -158,6 +183,9 @@ static const struct { const char *kind; void (*prepare)(void), (*round)(void); }
     {"register-read", nothing, read_registers},
     {"register-write", nothing, write_registers},
     {"advance", run_timer, pass_clocks},
+    {"advance-1000", run_timer, pass_thousands},
+    {"advance-end", run_to_ends, pass_single_clocks},
+    {"advance-most", run_to_ends, pass_most_clocks},
 };
 
 int main(int count, char **words)

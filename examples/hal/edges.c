@@ -416,6 +416,9 @@ static void delays(void)
     hal_delay(1000000);
     CHECK(hal.clocks - before == 13560000);
     before = hal.clocks;
+    hal_delay(3600000000); /* an hour, in twelve advances */
+    CHECK(hal.clocks - before == 48816000000);
+    before = hal.clocks;
     hal_delay(0);
     CHECK(hal.clocks == before);
     hal.access_clocks = 0;
@@ -429,7 +432,7 @@ static void delays(void)
     hal_delay(1); /* 1,003.44 */
     CHECK(ReadIO(MFRC531_REG_INTERRUPT_RQ) & MFRC531_TIMER_IRQ);
     before = hal.clocks;
-    hal.access_clocks = 100000; /* more than one advance takes */
+    hal.access_clocks = 100000;
     ReadIO(MFRC531_REG_COMMAND);
     CHECK(hal.clocks - before == 100000);
 }

@@ -189,12 +189,16 @@ fn crc_bytes<B: Bench>(chip: &mut B) -> u64 {
     (0..1000u32).map(|i| u64::from(chip.write(black_box(FIFO_DATA), i as u8))).sum()
 }
 
-fn advances<B: Bench>(chip: &mut B) -> u64 {
-    (0..20).map(|_| u64::from(chip.advance(black_box(1000)))).sum()
+fn thousand_clocks<B: Bench>(chip: &mut B) -> u64 {
+    (0..1000).map(|_| u64::from(chip.advance(black_box(1000)))).sum()
 }
 
 fn single_clocks<B: Bench>(chip: &mut B) -> u64 {
     (0..1000).map(|_| u64::from(chip.advance(black_box(1)))).sum()
+}
+
+fn most_clocks<B: Bench>(chip: &mut B) -> u64 {
+    (0..1000).map(|_| u64::from(chip.advance(black_box(u32::MAX)))).sum()
 }
 
 fn exchanges<B: Bench>(chip: &mut B) -> u64 {
@@ -238,8 +242,12 @@ macro_rules! line {
     };
 }
 
+/// A timer that restarts: with a step each 64 clocks, from 255 on, and with a step each clock, from 1 on.
+const TIMER_RUNS: &[(u8, u8)] = &[(0x2C, 255), (0x2A, 0x26), (CONTROL, 0x02)];
+const TIMER_ENDS: &[(u8, u8)] = &[(0x2C, 1), (0x2A, 0x20), (CONTROL, 0x02)];
+
 /// What is raced, beside the recorded mix; the numbers are how many calls, or clocks, a round has. The first is the driver's mix.
-const LINES: [Line; 13] = [
+const LINES: [Line; 15] = [
     line!("mix of host accesses: a command, its bytes, polls, the answer", 1000, &[], mix),
     line!("status poll (host read of PrimaryStatus)", 1000, &[], status_poll),
     line!("status poll while the chip receives", 1000, &[(COMMAND, 0x16)], status_poll),
@@ -249,8 +257,10 @@ const LINES: [Line; 13] = [
     line!("host write of FIFOData to an Idle chip, a flush after 64", 975, &[], fifo_fills),
     line!("CalcCRC, a start", 1000, &[], crc_starts),
     line!("CalcCRC, per byte written", 1000, &[(COMMAND, 0x12)], crc_bytes),
-    line!("advance by 1,000 with the timer running, per call", 20, &[(0x2C, 255), (0x2A, 0x26), (CONTROL, 0x02)], advances),
-    line!("advance by 1, per call", 1000, &[(0x2C, 255), (0x2A, 0x26), (CONTROL, 0x02)], single_clocks),
+    line!("advance by 1 with the timer running", 1000, TIMER_RUNS, single_clocks),
+    line!("advance by 1,000 with the timer running", 1000, TIMER_RUNS, thousand_clocks),
+    line!("advance by 1, the timer at its end with each clock", 1000, TIMER_ENDS, single_clocks),
+    line!("advance by 4,294,967,295, the timer at its end with each clock", 1000, TIMER_ENDS, most_clocks),
     line!("an exchange: four host writes, take and deliver, per exchange", 50, &[(CHANNEL_REDUNDANCY, 0x0F)], exchanges),
     line!("start from an image", 100, &[], starts),
 ];
@@ -366,7 +376,7 @@ fn timer_lap<B: Bench>(chip: &mut B) -> u64 {
 }
 
 /// The kinds of calls whose instructions tests/instructions counts, by the names that tests/instructions.c has, with the same calls.
-const COUNTED: [Line; 9] = [
+const COUNTED: [Line; 12] = [
     line!("driver-mix", 1000, &[], mix),
     line!("poll", 1000, &[], status_poll),
     line!("poll-receiving", 1000, &[(COMMAND, 0x16)], status_poll),
@@ -375,7 +385,10 @@ const COUNTED: [Line; 9] = [
     line!("crc-byte", 1000, &[(COMMAND, 0x12)], crc_bytes),
     line!("register-read", 1000, &[], register_reads),
     line!("register-write", 1000, &[], register_writes),
-    line!("advance", 16_320, &[(0x2C, 255), (0x2A, 0x26), (CONTROL, 0x02)], timer_lap),
+    line!("advance", 16_320, TIMER_RUNS, timer_lap),
+    line!("advance-1000", 1000, TIMER_RUNS, thousand_clocks),
+    line!("advance-end", 1000, TIMER_ENDS, single_clocks),
+    line!("advance-most", 1000, TIMER_ENDS, most_clocks),
 ];
 
 /// Makes so many rounds of calls of one kind on a plain chip, `judging` or `judging-nothing`. Answers how many calls that were, if kind and chip are

@@ -4,12 +4,11 @@ use Prim.Native.Nat.{ℕ, _%_, _<_, _≤_}
 use mathlib.Core.Path.{_≡_, refl, sym, ap, _∙_}
 use mathlib.Core.Bool.{Bool, true, false, cond}
 use mathlib.Core.List.{List}
-use lib.Dec.{ltb}
 use lib.ListN.{length}
 use borrow.Author.Tests.{eq-eqb, ne-eqb, lt-leb, le-leb}
 use Rattle.machine.specs.State.{Machine, Command, WriteE2, CalcCRC, addressing, ready, withCommand}
 use Rattle.machine.specs.Memory.{addressOf}
-use Rattle.machine.specs.Commands.{raisedTx, ended, enough, argument, taken, checksumTaken, latched, writeStepped, steppedAs, stepped, settled}
+use Rattle.machine.specs.Commands.{raisedTx, ended, enough, argument, taken, checksumTaken, writeStepped, steppedAs, stepped, settled}
 use Rattle.machine.proofs.Cases.{by-cond}
 use Rattle.machine.proofs.Settling.{settled-by}
 use Rattle.state.specs.View.{Core, commandOf}

@@ -1,6 +1,6 @@
 -- The pieces into which clocks are split, each from the timer's clocks and what the programming does: up to its end, before it, and without one.
 -- Assumes nothing.
-use Prim.Native.Nat.{ℕ, _+_, _-_, _<_, _≤_}
+use Prim.Native.Nat.{ℕ, _-_, _<_, _≤_}
 use native.Mathlib.Omega.{arith}
 use mathlib.Core.Path.{_≡_, refl, sym, ap, subst, _∙_}
 use mathlib.Core.Bool.{Bool, true, false, not, _&&_, true≢false}
@@ -8,7 +8,6 @@ use mathlib.Core.List.{List}
 use lib.Dec.{eqb, leb}
 use borrow.Author.Tests.{eq-eqb, ne-eqb, leb-true, leb-false}
 use Rattle.machine.specs.State.{Machine, Command, WriteE2, programming, whileProgramming, withCommand}
-use Rattle.machine.specs.WellFormed.{timerFormed}
 use Rattle.machine.specs.WellFormedness.{Formed}
 use Rattle.machine.specs.Commands.{programs}
 use Rattle.machine.specs.Events.{programmed, clocks}

@@ -1,5 +1,4 @@
 // Any number of clocks (manual 9.7), by what happens in them: a step, or many, of the timer, and the ends of programmings, of which there are at most six.
-ghost use Prim.Native.Nat.{_≤_};
 ghost use mathlib.Core.Bool.{not, _&&_};
 ghost use mathlib.Core.Path.{_≡_};
 ghost use lib.Dec.{eqb, leb};

@@ -3,21 +3,21 @@
 use mathlib.Core.Path.{_≡_, refl, sym, ap, _∙_, subst}
 use mathlib.Core.Bool.{Bool, true, false, cond, not, _&&_, _||_, true≢false, false≢true}
 use mathlib.Core.List.{List, [], _∷_, _++_, map, append-assoc, append-nil, append-cancel-right, head-eq-of-cons-eq, tail-eq-of-cons-eq}
-use Prim.Native.Nat.{ℕ, zero, suc, _+_, _<_, _≤_}
+use Prim.Native.Nat.{ℕ, suc, _+_}
 use native.Mathlib.Omega.{arith}
-use lib.Dec.{ltb, leb, eqb}
-use lib.ListN.{length, take, drop, getD}
+use lib.Dec.{ltb, eqb}
+use lib.ListN.{length, take, drop}
 use lib.Seq.{drop-append-seam}
-use borrow.Author.Tests.{eqb-true, eq-eqb, ltb-false, leb-true, leb-false}
-use Rattle.machine.specs.State.{Machine, Command, WriteE2, TransceiveReceiving, programming, withCommand, withHeld}
+use borrow.Author.Tests.{eqb-true, eq-eqb}
+use Rattle.machine.specs.State.{Machine, Command, TransceiveReceiving, withCommand, withHeld}
 use Rattle.machine.specs.Fifo.{firstOf, restOf, alerted}
-use Rattle.machine.specs.Commands.{codeOf, programs, ended, raisedTx}
+use Rattle.machine.specs.Commands.{codeOf, ended, raisedTx}
 use Rattle.machine.specs.Frames.{sending, receiving, txBegun, txEnded, afterSending, sent, received, passed}
 use Rattle.machine.specs.Registers.{mapped}
-use Rattle.machine.specs.WellFormed.{wellFormed, commandFormed}
+use Rattle.machine.specs.WellFormed.{wellFormed}
 use Rattle.machine.specs.Refusals.{Call, start, hostRead, hostWrite, advance, takeFrame, deliver, refusal, frameFormed}
-use Rattle.machine.specs.Events.{Outcome, Answer, byte, refused, bufferOf, accepted, perform, started, written, afterRead, advanced, taken, delivered, clocks}
-use Rattle.machine.proofs.Performing.{as-accepted, passed-test, not-false}
+use Rattle.machine.specs.Events.{Answer, byte, refused, bufferOf, accepted, perform, started, written, afterRead, advanced, taken, delivered}
+use Rattle.machine.proofs.Performing.{passed-test, not-false}
 use Rattle.machine.proofs.Cases.{while-programming}
 use Rattle.journal.specs.Entries as e
 use Rattle.journal.specs.Entries.{Entry, Byte, Memory, remembered, memoryFrom, bytesTo, keyBytes, collect}
@@ -26,8 +26,8 @@ use Rattle.journal.specs.Demand.{run, batch, waiting, storedBytes, ReadO
 use Rattle.journal.specs.Account.{added, memoryBytes, startImages, AtAddresses, AccountedBy, Accounted, EveryCall}
 use Rattle.journal.proofs.Folds.{collect-append, memory-append}
 use Rattle.journal.proofs.Adding.{none-of, offers-add}
-use Rattle.journal.proofs.Agreement.{AgreesWith, PlaceIs, memoryOf, stored-parts}
-use Rattle.journal.proofs.Calls.{idle-latch, receiving-latch}
+use Rattle.journal.proofs.Agreement.{AgreesWith, memoryOf, stored-parts}
+use Rattle.journal.proofs.Calls.{receiving-latch}
 use Rattle.journal.proofs.Run.{or-first, call-agrees, run-agrees}
 use Rattle.journal.proofs.Demand.{next-call}
 use Rattle.journal.proofs.Clocks.{clocks-enter}

@@ -1,28 +1,27 @@
 -- Register writes, clocks and calls keep machine and journal in agreement.
 -- Assumes nothing.
 use mathlib.Core.Path.{_≡_, refl, sym, ap, _∙_, subst}
-use mathlib.Core.Bool.{Bool, true, false, cond, not, _&&_, _||_, true≢false, false≢true}
-use mathlib.Core.List.{List, [], _∷_, _++_, append-nil, map}
-use Prim.Native.Nat.{ℕ, zero, suc, _+_, _-_, _*_, _%_, _<_, _≤_, _^_}
-use native.Mathlib.Omega.{arith}
+use mathlib.Core.Bool.{Bool, true, false, cond, _&&_, true≢false, false≢true}
+use mathlib.Core.List.{List, [], _∷_, _++_, map}
+use Prim.Native.Nat.{ℕ, zero, suc, _+_, _-_, _*_, _%_}
 use lib.Dec.{ltb, leb, eqb}
 use lib.ListN.{length, drop, set}
 use borrow.Author.Tests.{eqb-true}
 use Rattle.bits.specs.Bits.{bit, bitSet}
 use Rattle.crc.specs.Checksum.{presetOf, afterBytes}
-use Rattle.machine.specs.State.{Machine, Checksum, Command, Writing, Idle, WriteE2, ReadE2, LoadConfig, LoadKeyE2, LoadKey, CalcCRC, Transmit, Receive, TransceiveSending, TransceiveReceiving, addressing, ready, programming, withCommand, withHeld, withTimer, withPage, withEnables, withRequests, withControl, withBitFraming, withRegisters, withRxLastBits}
+use Rattle.machine.specs.State.{Machine, Checksum, Command, Idle, WriteE2, ReadE2, LoadConfig, LoadKeyE2, LoadKey, CalcCRC, Transmit, Receive, TransceiveSending, TransceiveReceiving, addressing, ready, programming, withCommand, withHeld, withEnables, withRequests, withControl, withBitFraming, withRegisters, withRxLastBits}
 use Rattle.machine.specs.Fifo.{registerAt, offered, offeredAll, flushed, restOf, alerted}
 use Rattle.machine.specs.Timer.{timerStarted, timerStopped, timerClock}
-use Rattle.machine.specs.Commands.{programs, clearedErrors, commandStarted, commandWritten, checksumStarted, withKeyErr, ended, settled, raisedTx, raisedRx}
+use Rattle.machine.specs.Commands.{programs, clearedErrors, commandStarted, commandWritten, ended, settled, raisedTx, raisedRx}
 use Rattle.machine.specs.Registers.{pageWritten, controlWritten, interruptsWritten, registerWritten}
 use Rattle.machine.specs.Events.{batchStored, programmed, commandClocked, clock, clocks, started}
 use Rattle.machine.proofs.Cases.{either, while-programming}
 use Rattle.journal.specs.Entries as e
-use Rattle.journal.specs.Entries.{Entry, Byte, Latest, latestFrom, noChecksum, Memory, memoryFrom}
+use Rattle.journal.specs.Entries.{Entry, Byte, latestFrom, noChecksum, Memory, memoryFrom}
 use Rattle.journal.specs.Journal.{Journal, entered, offer, offerAll, leave, leaveAll, begun, enterCommand, enterRegister, enterSettled, enterWritten, enterEnd, enterClockOf, enterClocks}
 use Rattle.journal.specs.Demand.{batch, waiting, checksumOf, storedBytes}
 use Rattle.journal.proofs.Folds.{latest-append, memory-append}
-use Rattle.journal.proofs.Moves.{Moves, moves-both, moves-mark, Leaving, Marking, Quiet, Quietly, grows-all, quietly-all, quietly-leave}
+use Rattle.journal.proofs.Moves.{Moves, moves-both, moves-mark, grows-all, quietly-all, quietly-leave}
 use Rattle.machine.specs.Frames.{sending, receiving, sent, received, afterSending, txBegun, txEnded, passed, crcFails, parityFails, withFrameErrors}
 use Rattle.machine.specs.Timer.{TStartTxBegin, TStartTxEnd, TStopRx}
 use Rattle.journal.proofs.Agreement.{leave-held, Agrees, AgreesWith, PlaceIs, KeyClear, quietly, offered-agrees, offers-agree, programmed-agrees, commanded}

@@ -11,8 +11,7 @@ use lib.ListN.{length, getD}
 use borrow.Author.Tests.{leb-true, leb-false}
 use Rattle.machine.specs.State.{Machine, Command, WriteE2, programming}
 use Rattle.machine.specs.Timer.{timerClock}
-use Rattle.machine.specs.Commands.{programs}
-use Rattle.machine.specs.Events.{programmed, clock, clocks}
+use Rattle.machine.specs.Events.{clock, clocks}
 use Rattle.machine.proofs.Cases.{Kind, still, under, kind, not-programming}
 use Rattle.machine.proofs.Clock.{timer-command, plain-clocked, goes-on, ends}
 use Rattle.journal.specs.Entries.{Entry, Byte, collect}

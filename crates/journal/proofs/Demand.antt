@@ -1,31 +1,29 @@
 -- Demand 3, whole, over the machine's definition.
 -- Assumes nothing.
 use mathlib.Core.Path.{_≡_, refl, sym, ap, _∙_, subst}
-use mathlib.Core.Bool.{Bool, true, false, cond, not, _&&_, true≢false, false≢true}
+use mathlib.Core.Bool.{Bool, true, false, cond, not}
 use mathlib.Core.List.{List, [], _∷_, _++_, append-assoc, append-cancel-left}
 use Prim.Native.Nat.{ℕ, suc, _+_, _-_, _/_, _%_, _<_, _≤_}
 use native.Mathlib.Omega.{arith}
-use lib.Dec.{ltb, leb, eqb, eqb·suc-zero}
+use lib.Dec.{eqb, eqb·suc-zero}
 use lib.ListN.{length, getD, take, drop}
 use lib.Seq.{take-append-seam}
-use borrow.Author.Tests.{eqb-true, ltb-false, leb-true}
 use Rattle.crc.specs.Checksum.{resultOf}
 use Rattle.key.specs.Key.{formatHolds, judgedKey}
 use Rattle.machine.specs.State.{Machine, Checksum, Key, Command, WriteE2, programming}
 use Rattle.machine.specs.Fifo.{firstOf, alerted}
-use Rattle.machine.specs.Memory.{storedFrom, programmingClocks}
-use Rattle.machine.specs.Frames.{frameSent, crcBytes}
+use Rattle.machine.specs.Frames.{frameSent}
 use Rattle.machine.specs.Registers.{mapped, registerRead, crcResult}
-use Rattle.machine.specs.WellFormed.{wellFormed, fifoFormed, timerFormed, commandFormed}
+use Rattle.machine.specs.WellFormed.{wellFormed}
 use Rattle.machine.specs.Refusals.{Call, start, hostRead, hostWrite, advance, takeFrame, deliver, refusal}
-use Rattle.machine.specs.Events.{Outcome, Answer, accepted, perform, refused, bufferOf, written, readByte, afterRead, advanced, taken, delivered, bufferTaken, byte, clocks}
+use Rattle.machine.specs.Events.{Outcome, accepted, perform, refused, bufferOf, written, readByte, afterRead, advanced, bufferTaken, byte, clocks}
 use Rattle.machine.proofs.Performing.{as-accepted, passed-test, not-false}
 use Rattle.machine.proofs.WellFormed.Parts.{some-left}
 use Rattle.journal.specs.Entries as e
 use Rattle.journal.specs.Entries.{collect, keyBytes}
 use Rattle.journal.specs.Journal.{Journal, enterAccepted, enter, leaveFrom, leave, Both}
 use Rattle.journal.specs.Demand.{run, checksumShown, ReadAnswers, NextCall, Demand3}
-use Rattle.journal.proofs.Agreement.{Agrees, AgreesWith, PlaceIs}
+use Rattle.journal.proofs.Agreement.{AgreesWith, PlaceIs}
 use Rattle.journal.proofs.Run.{run-agrees, conserved}
 use Rattle.journal.proofs.Keys.{NoKey, moved, Judged, nothing, twelve, KeyCall, key-none, clocks-keyless, written-keys}
 use Rattle.journal.proofs.Adding.{adds-none, leave-adds, all-adds, offers-add}

@@ -4,30 +4,30 @@
 use mathlib.Core.Path.{_≡_, refl, sym, ap, _∙_, subst}
 use mathlib.Core.Bool.{Bool, true, false, cond, _&&_, true≢false}
 use mathlib.Core.List.{List, [], _∷_, _++_, append-assoc, append-nil}
-use Prim.Native.Nat.{ℕ, zero, suc, _+_, _-_, _*_, _%_, _<_, _≤_, min}
+use Prim.Native.Nat.{ℕ, _+_, _-_, _*_, _%_, _≤_, min}
 use native.Mathlib.Omega.{arith}
 use lib.Dec.{ltb, leb, eqb}
 use lib.ListN.{length, take, replicate}
-use borrow.Author.Tests.{ltb-true, ltb-false, leb-true, leb-false, le-leb, lt-leb}
+use borrow.Author.Tests.{ltb-true, ltb-false, leb-false, le-leb, lt-leb}
 use Rattle.bits.specs.Bits.{bit, bitSet}
 use Rattle.machine.specs.State.{Machine, Command, Writing, Idle, WriteE2, ReadE2, LoadConfig, LoadKeyE2, LoadKey, CalcCRC, Transmit, Receive, TransceiveSending, TransceiveReceiving, addressing, ready, programming, withinWriteE2, withCommand, withControl}
 use Rattle.machine.specs.Fifo.{offered, flushed}
 use Rattle.machine.specs.Memory.{roomInBlock, programmingClocks}
-use Rattle.machine.specs.Timer.{timerStarted, timerStopped, timerClock}
+use Rattle.machine.specs.Timer.{timerStarted, timerStopped}
 use Rattle.machine.specs.Commands.{programs, commandStarted, commandWritten, clearedErrors, enough, taken, ended, raisedTx, withAccessErr, latched, steppedAs, stepped, settled}
 use Rattle.machine.specs.Registers.{controlWritten, registerWritten}
-use Rattle.machine.specs.Events.{batchStored, programmed, clock, clocks}
-use Rattle.machine.proofs.Cases.{either, while-programming}
+use Rattle.machine.specs.Events.{batchStored, programmed}
+use Rattle.machine.proofs.Cases.{either}
 use Rattle.journal.specs.Entries as e
 use Rattle.journal.specs.Entries.{Entry, Byte, bytesTo, collect}
-use Rattle.journal.specs.Journal.{Journal, offerAll, memory, leaveAllAs, usesOf, basedBy, offersOf, enterStep, enterSettled, enterRegister, enterWritten, enterEnd, enterClockOf, enterClocks}
+use Rattle.journal.specs.Journal.{Journal, offerAll, memory, leaveAllAs, usesOf, basedBy, offersOf, enterStep, enterSettled, enterRegister, enterWritten, enterEnd}
 use Rattle.journal.specs.Demand.{batch, waiting}
 use Rattle.journal.specs.Account.{memoryBytes, startImages}
 use Rattle.journal.proofs.Folds.{collect-append}
 use Rattle.journal.proofs.Adding.{Each, Adds, none-of, adds-none, Moved, step-adds, register-adds}
 use Rattle.journal.proofs.Agreement.{Agrees, AgreesWith, placed, memories, programmed-agrees}
 use Rattle.journal.proofs.Steps.{take-least, step-agrees}
-use Rattle.journal.proofs.Calls.{idle-latch, timer-agrees, register-agrees, clocks-agree}
+use Rattle.journal.proofs.Calls.{idle-latch, register-agrees}
 
 -- Entries of no host read, of no take and of no start.
 pub record Inside (xs : List Entry) : Type 0 where

@@ -15,6 +15,7 @@ use Rattle.machine.specs.Memory.{storedFrom, roomInBlock, programmingClocks}
 use Rattle.machine.specs.Timer.{timerClock}
 use Rattle.machine.specs.Commands.{programs}
 use Rattle.machine.specs.Events.{programmed, clock, clocks}
+use Rattle.machine.proofs.ManyClocks.Pieces.{goes-on-by, same-eeprom}
 use Rattle.machine.proofs.Clock.{timer-eeprom, timer-command, plain-clocked, goes-on, ends, end-any}
 
 -- A byte below the stored ones is as it was; each stored byte stands at its address.
@@ -39,13 +40,9 @@ stored-at (b ∷ bs) eeprom a (suc i) fits h =
 -- While a programming has clocks left, its bytes wait on and memory stands.
 pub pending : (n : ℕ) (m : Machine) (a left : ℕ) (bs : List ℕ) → m .command ≡ WriteE2 (programming a bs left) → n < left →
     (clocks n m .command ≡ WriteE2 (programming a bs (left - n))) × (clocks n m .eeprom ≡ m .eeprom)
-unfolding clocks
-pending zero m a left bs is h = let none : left ≡ left - 0 = omega arith in (is ∙ ap (λ (k : ℕ). WriteE2 (programming a bs k)) none, refl)
-pending (suc n) m a left bs is h =
-    let same = goes-on m a left bs is (omega arith) in
-    let (waits, stands) = pending n (clock m) a (left - 1) bs (ap (λ (x : Machine). x .command) same) (omega arith) in
-    let less : left - 1 - n ≡ left - suc n = omega arith in
-    (waits ∙ ap (λ (k : ℕ). WriteE2 (programming a bs k)) less, stands ∙ ap (λ (x : Machine). x .eeprom) same ∙ timer-eeprom m)
+pending n m a left bs is within =
+    let same = goes-on-by m a left bs is n within in
+    (ap (λ (x : Machine). x .command) same, ap (λ (x : Machine). x .eeprom) same ∙ same-eeprom n m)
 
 -- Clocks store nothing below an address: no programming runs, or one from there on, and what follows it comes behind it.
 data StoresFrom (b : ℕ) : Command → Type 0 where

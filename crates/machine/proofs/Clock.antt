@@ -5,13 +5,13 @@ use mathlib.Core.Path.{_≡_, refl, sym, ap, subst, _∙_}
 use mathlib.Core.Bool.{Bool, true, false, cond}
 use mathlib.Core.List.{List}
 use native.Mathlib.Omega.{arith}
-use lib.Dec.{ltb, leb, eqb}
+use lib.Dec.{ltb, eqb}
 use lib.ListN.{length, take}
-use borrow.Author.Tests.{le-leb, lt-leb, eqb-true, eqb-false, ltb-true, ltb-false}
-use Rattle.machine.specs.State.{Machine, Command, Timer, WriteE2, ready, programming, withCommand, withTimer}
+use borrow.Author.Tests.{le-leb, lt-leb, eqb-false, ltb-false}
+use Rattle.machine.specs.State.{Machine, Command, Timer, WriteE2, programming, withCommand, withTimer}
 use Rattle.machine.specs.Timer.{timerClock, runningAt, raisedTimer, restarted, stoppedAt, TAutoRestart, TimerReload}
 use Rattle.machine.specs.Memory.{roomInBlock, programmingClocks}
-use Rattle.machine.specs.Commands.{programs, raisedTx, ended, taken, withAccessErr, latched, writeStepped, settled}
+use Rattle.machine.specs.Commands.{programs, raisedTx, ended, taken, withAccessErr, latched, settled}
 use Rattle.machine.specs.Events.{batchStored, programmed, programmingClocked, commandClocked, clock}
 use Rattle.machine.proofs.Cases.{by-cond, not-programming}
 use Rattle.machine.proofs.Settling.{settled-writes}

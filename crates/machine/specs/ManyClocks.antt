@@ -3,16 +3,15 @@
 -- clocks come. The last fields are examples.
 -- Assumes nothing.
 use Prim.Native.Nat.{ℕ, zero, suc, _+_, _-_, _/_, _%_, _^_, _<_, _≤_}
-use mathlib.Core.Bool.{Bool, true, false, cond, not, _&&_}
+use mathlib.Core.Bool.{true, false, cond, not, _&&_}
 use mathlib.Core.List.{List, [], _∷_, _++_}
 use mathlib.Core.Path.{_≡_}
 use lib.Dec.{ltb, leb, eqb}
-use lib.ListN.{take, drop}
 use Rattle.machine.specs.State.{Machine, Command, WriteE2, programming, whileProgramming, withCommand, withTimer}
 use Rattle.machine.specs.Timer.{TAutoRestart, TimerReload, stoppedAt, runningAt, raisedTimer}
 use Rattle.machine.specs.Memory.{bytesFrom}
 use Rattle.machine.specs.Commands.{programs}
-use Rattle.machine.specs.Refusals.{Call, hostWrite, advance}
+use Rattle.machine.specs.Refusals.{hostWrite, advance}
 use Rattle.machine.specs.Events.{programmed, clock, clocks}
 use Rattle.machine.specs.WellFormedness.{Formed}
 use Rattle.machine.specs.Numbers.{afterStart, command}

@@ -4,16 +4,16 @@ use Prim.Native.Nat.{ℕ, zero, suc, _+_, _-_, _<_, _≤_}
 use native.Mathlib.Nat.{zero-add, suc-add}
 use native.Mathlib.Omega.{arith}
 use mathlib.Core.Path.{_≡_, refl, sym, ap, _∙_}
-use mathlib.Core.Bool.{Bool, true, false, cond}
+use mathlib.Core.Bool.{true, false}
 use mathlib.Core.List.{List}
 use Rattle.machine.specs.State.{Machine, Command, WriteE2, programming, withCommand}
 use Rattle.machine.specs.Timer.{timerClock}
 use Rattle.machine.specs.WellFormed.{timerFormed}
 use Rattle.machine.specs.Commands.{programs}
-use Rattle.machine.specs.Events.{programmed, commandClocked, clock, clocks}
+use Rattle.machine.specs.Events.{programmed, clock, clocks}
 use Rattle.machine.specs.ManyClocks.{timerAfter}
-use Rattle.machine.proofs.Clock.{timer-command, timer-past-command, plain-clocked, goes-on, ends}
-use Rattle.machine.proofs.ManyClocks.Timer.{one-more, none, after-any}
+use Rattle.machine.proofs.Clock.{timer-command, timer-eeprom, timer-past-command, plain-clocked, goes-on, ends}
+use Rattle.machine.proofs.ManyClocks.Timer.{one-more, none}
 
 -- The clocks of a sum are those of its parts, one after the other; so one more is a clock behind them.
 pub in-parts : (a b : ℕ) (m : Machine) → clocks (a + b) m ≡ clocks b (clocks a m)
@@ -25,48 +25,75 @@ last-clock : (n : ℕ) (m : Machine) → clocks (suc n) m ≡ clock (clocks n m)
 unfolding clocks
 last-clock n m = let e : suc n ≡ n + 1 = omega arith in ap (λ (k : ℕ). clocks k m) e ∙ in-parts n 1 m
 
-module _ (m : Machine) (formed : timerFormed (m .timer) ≡ true) where
-  -- Nothing is programmed.
-  pub timer-alone : programs (m .command) ≡ false → (n : ℕ) → clocks n m ≡ timerAfter n m
-  unfolding clocks clock
-  timer-alone idle zero = sym (none m formed)
-  timer-alone idle (suc n) =
-      let x = timerAfter n m in
-      let same : x .command ≡ m .command = after-any m (λ (k : Machine). k .command ≡ m .command) refl (λ t. refl) (λ t. refl) n in
+-- So many clocks of the timer alone, the last one behind the others. They leave the command and the EEPROM.
+pub timerClocks : ℕ → Machine → Machine
+timerClocks zero m = m
+timerClocks (suc n) m = timerClock (timerClocks n m)
+
+same-command : (n : ℕ) (m : Machine) → timerClocks n m .command ≡ m .command
+unfolding timerClocks
+same-command zero m = refl
+same-command (suc n) m = timer-command (timerClocks n m) ∙ same-command n m
+
+pub same-eeprom : (n : ℕ) (m : Machine) → timerClocks n m .eeprom ≡ m .eeprom
+unfolding timerClocks
+same-eeprom zero m = refl
+same-eeprom (suc n) m = timer-eeprom (timerClocks n m) ∙ same-eeprom n m
+
+-- Of a timer that is formed they are those of the formula.
+by-formula : (n : ℕ) (m : Machine) → timerFormed (m .timer) ≡ true → timerClocks n m ≡ timerAfter n m
+unfolding timerClocks
+by-formula zero m formed = sym (none m formed)
+by-formula (suc n) m formed = ap timerClock (by-formula n m formed) ∙ one-more m n
+
+-- Nothing is programmed.
+alone : (n : ℕ) (m : Machine) → programs (m .command) ≡ false → clocks n m ≡ timerClocks n m
+unfolding clocks clock timerClocks
+alone zero m idle = refl
+alone (suc n) m idle =
+    let x = timerClocks n m in
+    last-clock n m ∙ ap clock (alone n m idle) ∙ plain-clocked (x .command) (timerClock x) (ap programs (same-command n m) ∙ idle)
+
+module _ (m : Machine) (a left : ℕ) (bs : List ℕ) (is : m .command ≡ WriteE2 (programming a bs left)) where
+  -- The machine with so many clocks left.
+  abbrev counting : ℕ → Machine → Machine
+  counting k x = withCommand (WriteE2 (programming a bs k)) x
+
+  -- A programming goes on.
+  pub goes-on-by : (n : ℕ) → n < left → clocks n m ≡ counting (left - n) (timerClocks n m)
+  unfolding clocks timerClocks
+  goes-on-by zero within = let all : left ≡ left - 0 = omega arith in ap (λ (c : Command). withCommand c m) is ∙ ap (λ (k : ℕ). counting k m) all
+  goes-on-by (suc n) within =
+      let x = timerClocks n m in
+      let less : left - n - 1 ≡ left - suc n = omega arith in
       last-clock n m
-      ∙ ap clock (timer-alone idle n)
-      ∙ plain-clocked (x .command) (timerClock x) (ap programs same ∙ idle)
-      ∙ one-more m n
+      ∙ ap clock (goes-on-by n (omega arith))
+      ∙ goes-on (counting (left - n) x) a (left - n) bs refl (omega arith)
+      ∙ ap (counting (left - n - 1)) (timer-past-command (WriteE2 (programming a bs (left - n))) x)
+      ∙ ap (λ (k : ℕ). counting k (timerClock x)) less
+
+  -- It ends with the last of its clocks.
+  ends-by : 1 ≤ left → clocks left m ≡ programmed a bs (timerClocks left m)
+  unfolding timerClocks
+  ends-by some =
+      let n = left - 1 in
+      let x = timerClocks n m in
+      let all : left ≡ suc n = omega arith in
+      ap (λ (k : ℕ). clocks k m) all
+      ∙ last-clock n m
+      ∙ ap clock (goes-on-by n (omega arith))
+      ∙ ends (counting (left - n) x) a (left - n) bs refl (omega arith)
+      ∙ ap (programmed a bs) (timer-past-command (WriteE2 (programming a bs (left - n))) x)
+      ∙ ap (λ (k : ℕ). programmed a bs (timerClocks k m)) (sym all)
+
+-- The same, by the formula.
+module _ (m : Machine) (formed : timerFormed (m .timer) ≡ true) where
+  pub timer-alone : programs (m .command) ≡ false → (n : ℕ) → clocks n m ≡ timerAfter n m
+  timer-alone idle n = alone n m idle ∙ by-formula n m formed
 
   module _ (a left : ℕ) (bs : List ℕ) (is : m .command ≡ WriteE2 (programming a bs left)) where
-    -- The machine with so many clocks left.
-    abbrev counting : ℕ → Machine → Machine
-    counting k x = withCommand (WriteE2 (programming a bs k)) x
+    pub before-end : (n : ℕ) → n < left → clocks n m ≡ withCommand (WriteE2 (programming a bs (left - n))) (timerAfter n m)
+    before-end n within = goes-on-by m a left bs is n within ∙ ap (withCommand (WriteE2 (programming a bs (left - n)))) (by-formula n m formed)
 
-    -- A programming goes on.
-    pub before-end : (n : ℕ) → n < left → clocks n m ≡ counting (left - n) (timerAfter n m)
-    unfolding clocks
-    before-end zero within =
-        let all : left ≡ left - 0 = omega arith in
-        ap (λ (c : Command). withCommand c m) is ∙ ap (λ (k : ℕ). counting k m) all ∙ ap (counting (left - 0)) (sym (none m formed))
-    before-end (suc n) within =
-        let x = counting (left - n) (timerAfter n m) in
-        let less : left - n - 1 ≡ left - suc n = omega arith in
-        last-clock n m
-        ∙ ap clock (before-end n (omega arith))
-        ∙ goes-on x a (left - n) bs refl (omega arith)
-        ∙ ap (counting (left - n - 1)) (timer-past-command (WriteE2 (programming a bs (left - n))) (timerAfter n m) ∙ ap (counting (left - n)) (one-more m n))
-        ∙ ap (λ (k : ℕ). counting k (timerAfter (suc n) m)) less
-
-    -- It ends with the last of its clocks.
     pub at-end : 1 ≤ left → clocks left m ≡ programmed a bs (timerAfter left m)
-    at-end some =
-        let n = left - 1 in
-        let x = counting (left - n) (timerAfter n m) in
-        let all : left ≡ suc n = omega arith in
-        ap (λ (k : ℕ). clocks k m) all
-        ∙ last-clock n m
-        ∙ ap clock (before-end n (omega arith))
-        ∙ ends x a (left - n) bs refl (omega arith)
-        ∙ ap (programmed a bs) (timer-past-command (WriteE2 (programming a bs (left - n))) (timerAfter n m) ∙ ap (counting (left - n)) (one-more m n))
-        ∙ ap (λ (k : ℕ). programmed a bs (timerAfter k m)) (sym all)
+    at-end some = ends-by m a left bs is some ∙ ap (programmed a bs) (by-formula left m formed)

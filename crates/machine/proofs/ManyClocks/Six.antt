@@ -9,8 +9,8 @@ use mathlib.Core.List.{List}
 use lib.Dec.{leb, eqb}
 use lib.ListN.{length, take, drop, length-drop}
 use lib.Seq.{length-take-le}
-use borrow.Author.Tests.{leb-true, leb-false, le-leb, lt-leb, eqb-true, eqb-false}
-use Rattle.machine.specs.State.{Machine, Command, WriteE2, programming, whileProgramming}
+use borrow.Author.Tests.{leb-true, leb-false, eqb-true, eqb-false}
+use Rattle.machine.specs.State.{Machine, Command, whileProgramming}
 use Rattle.machine.specs.Memory.{roomInBlock}
 use Rattle.machine.specs.Timer.{timerClock}
 use Rattle.machine.specs.Commands.{programs}

@@ -1,7 +1,6 @@
 -- `event_clock_advance::programming::programmed` meets its contract, by whether a byte is held. Assumes nothing.
 use denote.Ref.{now}
 use Prim.Native.Nat.{ℕ}
-use native.Mathlib.Omega.{arith}
 use mathlib.Core.Path.{_≡_, sym, ap, _∙_}
 use mathlib.Core.Bool.{true}
 use lib.ListN.{length, set, take}

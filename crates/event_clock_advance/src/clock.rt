@@ -1,4 +1,4 @@
-// Any number of clocks (manual 9.7), by what happens in them: a step, or many, of the timer, and the ends of programmings, of which there are at most six.
+// Any number of clocks (manual 9.4), by what happens in them: the timer goes on by as many steps as they make, and at most six programmings end.
 ghost use mathlib.Core.Bool.{not, _&&_};
 ghost use mathlib.Core.Path.{_≡_};
 ghost use lib.Dec.{eqb, leb};
@@ -17,7 +17,7 @@ fn ends_within(left: u32, rest: u32) -> bool
     (left != 0) & (left <= rest)
 }
 
-// So many clocks. They are split here and nowhere else: at the end of each programming, of which the next one begins where bytes wait.
+// So many clocks. They are split here and nowhere else: at the end of each programming. Where bytes wait the next one begins there.
 fn clocked_times(
     clocks: &mut [u32; 2],
     numbers: &mut [u16; 6],

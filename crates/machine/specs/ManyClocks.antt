@@ -16,8 +16,8 @@ use Rattle.machine.specs.Events.{programmed, clock, clocks}
 use Rattle.machine.specs.WellFormedness.{Formed}
 use Rattle.machine.specs.Numbers.{afterStart, command}
 
--- A running timer after so many steps, and so many clocks of the next one. Fewer steps than its value are taken off it. With more the request is set; by
--- TAutoRestart, where TimerReload is not 0, the steps left over have gone round TimerReload, and else the timer is stopped at 0.
+-- A running timer after so many steps, and so many clocks of the next one. Fewer steps than its value are taken off it. With as many or more the request is set;
+-- by TAutoRestart, where TimerReload is not 0, the steps left over have gone round TimerReload, and else the timer is stopped at 0.
 abbrev pub afterSteps : ℕ → ℕ → Machine → Machine
 afterSteps steps phase m =
     let value = m .timer .value in

@@ -67,7 +67,7 @@ performed {c} {d} {call} {answer} {buffer} meets formed = go (refusal (view c) c
         }
 
 -- What each function's contract promises is the one relation.
-called-meets : {c : Chip} {s : Step} → Called c s → Meets c (s .call) (s .chip) (s .answer) (s .buffer)
+pub called-meets : {c : Chip} {s : Step} → Called c s → Meets c (s .call) (s .chip) (s .answer) (s .buffer)
 called-meets (start-in-place κs chip chip′ image r promise) = promise
 called-meets (read-in-place κs chip chip′ address r promise) = promise
 called-meets (write-in-place κs chip chip′ address v r promise) = promise

@@ -23,7 +23,7 @@ use Rattle.state.specs.declared.Chip.{Chip}
 use Rattle.state.proofs.StageLaws.{by-stage}
 use Rattle.state.proofs.StoreLaws.{put, at-set, at-set-two, stored, stage-agrees, next-near, bytes-agree}
 use Rattle.state.proofs.TurnLaws.{sized-clocks, sized-state, sized-eeprom}
-use Rattle.event_clock_advance.specs.Clock.{storedWrapped, leftWith}
+use Rattle.event_clock_advance.specs.Clock.{storedWrapped, programmingLeft}
 
 -- The next byte behind those stored.
 store-next : (bs eeprom : List ℕ) (a b : ℕ) → storedFrom eeprom a (bs ++ b ∷ []) ≡ set (storedFrom eeprom a bs) (a + length bs) b
@@ -130,14 +130,14 @@ module _ (k : Core) (latch : List ℕ) where
       by-stage (λ s c. programs c ≡ false) k latch (rw (eq-eqb (k .left) 0 none) refl) (rw (eq-eqb (k .left) 0 none) refl) refl refl refl refl refl refl refl refl refl (λ o. refl)
 
 -- A programming goes on with so many clocks left.
-pub left-turns : (c : Chip) (n : ℕ) → Sizes c → fieldsFormed c ≡ true → (core c .left ≡ 0 → ⊥) → 1 ≤ n → Turned (leftWith n) c (withClocks (set (c .clocks) 1 n) c)
+pub left-turns : (c : Chip) (n : ℕ) → Sizes c → fieldsFormed c ≡ true → (core c .left ≡ 0 → ⊥) → 1 ≤ n → Turned (programmingLeft n) c (withClocks (set (c .clocks) 1 n) c)
 unfolding viewOf
 left-turns c n sizes formed some more =
     let k = core c in
     let (writing, fits) = programs-here c formed some in
     let next = withClocks (set (c .clocks) 1 n) c in
     let counted = coreBy (put 1 n (at (c .clocks))) (at (c .numbers)) (at (c .state)) in
-    stored next (at-set (c .clocks) 1 n (omega (arith, sizes .clock-count))) refl refl (leftWith n) c
+    stored next (at-set (c .clocks) 1 n (omega (arith, sizes .clock-count))) refl refl (programmingLeft n) c
     (sized-clocks sizes (set (c .clocks) 1 n) (length-set (c .clocks) 1 n ∙ sizes .clock-count))
     (ap (λ (d : Command). withCommand d (view c)) (is-programming counted (c .latch) writing (omega arith))
     ∙ sym (ap (λ (d : Command). whileProgramming (λ a bs left. withCommand (WriteE2 (programming a bs n)) (view c)) (view c) d) (is-programming k (c .latch) writing some)))

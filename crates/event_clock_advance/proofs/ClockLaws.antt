@@ -2,7 +2,7 @@
 -- Assumes nothing.
 use Prim.Native.Nat.{ℕ, _-_, _<_, _≤_}
 use native.Mathlib.Omega.{arith}
-use mathlib.Core.Path.{_≡_, refl, sym, ap, subst, _∙_}
+use mathlib.Core.Path.{_≡_, sym, ap, subst, _∙_}
 use mathlib.Core.Bool.{Bool, true, false, not, _&&_, true≢false}
 use mathlib.Core.List.{List}
 use lib.Dec.{eqb, leb}
@@ -13,36 +13,41 @@ use Rattle.machine.specs.Commands.{programs}
 use Rattle.machine.specs.Events.{programmed, clocks}
 use Rattle.machine.specs.ManyClocks.{timerAfter}
 use Rattle.machine.proofs.WellFormed.Parts.{Good, good-formed, each, well-timer, some-left}
-use Rattle.machine.proofs.ManyClocks.Timer.{after-any}
-use Rattle.machine.proofs.ManyClocks.Pieces.{timer-alone, before-end, at-end}
+use Rattle.machine.proofs.ManyClocks.Pieces.{formula-command, timer-alone, before-end, at-end}
 use Rattle.state.specs.View.{core, view, viewOf}
 use Rattle.state.specs.declared.Chip.{Chip}
-use Rattle.event_clock_advance.specs.Clock.{ended, leftWith}
+use Rattle.event_clock_advance.specs.Clock.{programmingEnded, programmingLeft}
 use Rattle.event_clock_advance.proofs.BatchLaws.{is-idle}
 
 -- What so many clocks leave is well formed again, so that the next piece finds a well-formed machine.
 pub formed-by : {x m : Machine} → x ≡ m → Good m → Formed x
 formed-by {x} is good = good-formed x (subst Good (sym is) good)
 
--- The timer's clocks leave the command.
-pub same-command : (m : Machine) (n : ℕ) → timerAfter n m .command ≡ m .command
-same-command m n = after-any m (λ (x : Machine). x .command ≡ m .command) refl (λ t. refl) (λ t. refl) n
-
 module _ (m : Machine) (formed : Formed m) where
+  -- The timer's clocks leave the command.
+  same-command : (n : ℕ) → timerAfter n m .command ≡ m .command
+  same-command n = formula-command m (well-timer m (formed .well)) n
+
+  -- So after them the arrays still have a programming's clocks.
+  pub still-left : (y : Chip) (n : ℕ) → view y ≡ timerAfter n m → programs (m .command) ≡ true → core y .left ≡ 0 → ⊥
+  unfolding viewOf
+  still-left y n is runs none =
+      true≢false (sym runs ∙ sym (ap (λ (x : Machine). programs (x .command)) is ∙ ap programs (same-command n)) ∙ is-idle (core y) (y .latch) none)
+
   pub piece-rests : (n : ℕ) → programs (m .command) ≡ false → timerAfter n m ≡ clocks n m
   piece-rests n idle = sym (timer-alone m (well-timer m (formed .well)) idle n)
 
   module _ (a left : ℕ) (bs : List ℕ) (is : m .command ≡ WriteE2 (programming a bs left)) where
-    pub piece-ends : ended (timerAfter left m) ≡ clocks left m
+    pub piece-ends : programmingEnded (timerAfter left m) ≡ clocks left m
     piece-ends =
         let y = timerAfter left m in
-        ap (λ (c : Command). whileProgramming (λ s cs k. programmed s cs y) y c) (same-command m left ∙ is)
+        ap (λ (c : Command). whileProgramming (λ s cs k. programmed s cs y) y c) (same-command left ∙ is)
         ∙ sym (at-end m (well-timer m (formed .well)) a left bs is (some-left m (formed .well) a left bs is))
 
-    pub piece-goes-on : (n : ℕ) → n < left → leftWith (left - n) (timerAfter n m) ≡ clocks n m
+    pub piece-goes-on : (n : ℕ) → n < left → programmingLeft (left - n) (timerAfter n m) ≡ clocks n m
     piece-goes-on n within =
         let y = timerAfter n m in
-        ap (λ (c : Command). whileProgramming (λ s cs k. withCommand (WriteE2 (programming s cs (left - n))) y) y c) (same-command m n ∙ is)
+        ap (λ (c : Command). whileProgramming (λ s cs k. withCommand (WriteE2 (programming s cs (left - n))) y) y c) (same-command n ∙ is)
         ∙ sym (before-end m (well-timer m (formed .well)) a left bs is n within)
 
 -- Whether a programming ends within the clocks that are left to go: it does, or, where one runs, it has more clocks left.
@@ -53,9 +58,3 @@ ends-here left rest h =
 
 pub goes-past : (left rest : ℕ) → (not (eqb left 0) && leb left rest) ≡ false → (left ≡ 0 → ⊥) → rest < left
 goes-past left rest h some = leb-false left rest (sym (ap (λ (t : Bool). not t && leb left rest) (ne-eqb left 0 some)) ∙ h)
-
--- After the timer's clocks the arrays still have a programming's clocks.
-pub still-left : (y : Chip) (m : Machine) (n : ℕ) → view y ≡ timerAfter n m → programs (m .command) ≡ true → core y .left ≡ 0 → ⊥
-unfolding viewOf
-still-left y m n is runs none =
-    true≢false (sym runs ∙ sym (ap (λ (x : Machine). programs (x .command)) is ∙ ap programs (same-command m n)) ∙ is-idle (core y) (y .latch) none)

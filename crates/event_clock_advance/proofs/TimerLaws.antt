@@ -3,31 +3,21 @@
 use Prim.Native.Nat.{ℕ, _+_, _-_, _/_, _%_, _^_, _<_, _≤_}
 use native.Mathlib.Omega.{arith}
 use mathlib.Core.Path.{_≡_, refl, sym, ap, _∙_}
-use mathlib.Core.Bool.{Bool, true, false, cond, not, and-eq-true-iff, _&&_}
+use mathlib.Core.Bool.{Bool, true, false, cond, not, _&&_}
 use mathlib.Core.List.{List}
 use lib.ListN.{set, length-set}
-use lib.Dec.{eqb, ltb, leb}
-use borrow.Author.Tests.{lt-ltb, le-ltb, leb-true, eqb-true}
-use Rattle.machine.specs.State.{Machine, Timer, withTimer}
+use lib.Dec.{eqb, ltb}
+use borrow.Author.Tests.{lt-ltb, le-ltb}
+use Rattle.machine.specs.State.{Machine, withTimer}
 use Rattle.machine.specs.Timer.{TAutoRestart, TimerReload, stoppedAt, runningAt, raisedTimer}
 use Rattle.machine.specs.WellFormed.{timerFormed}
 use Rattle.machine.specs.ManyClocks.{afterSteps, timerAfter}
+use Rattle.machine.proofs.WellFormed.Timer.{running}
 use Rattle.state.specs.View.{viewOf}
 use Rattle.state.specs.Lent.{clocksState}
 use Rattle.state.specs.Turns.{Turns}
 use Rattle.state.proofs.StoreLaws.{at-set, stored, keeps-byte}
 use Rattle.state.proofs.TurnLaws.{sized-clocks, sized-state}
-
--- A well-formed timer's prescaler is below 32.
-formed : (r : Bool) (v p k : ℕ) → timerFormed (record { running = r; value = v; prescaler = p; phase = k }) ≡ true → p < 32
-formed true v p k e =
-    let bounded : (leb v 255 && (leb p 21 && ltb k (2 ^ p))) ≡ true = and-eq-true-iff (leb 1 v) _ .0 e .1 in
-    let high : leb p 21 ≡ true = and-eq-true-iff (leb p 21) _ .0 (and-eq-true-iff (leb v 255) _ .0 bounded .1) .0 in
-    omega (arith, leb-true p 21 high)
-formed false v p k e = omega (arith, eqb-true p 0 (and-eq-true-iff (eqb p 0) _ .0 e .0))
-
-pub formed-fits : (t : Timer) → timerFormed t ≡ true → t .prescaler < 32
-formed-fits t = formed (t .running) (t .value) (t .prescaler) (t .phase)
 
 -- A timer at another value and phase; TRunning and the prescaler stay.
 abbrev pub goesOn : ℕ → ℕ → Machine → Machine
@@ -43,14 +33,14 @@ unfolding timerAfter
 after-rests m n rests = sym (rw rests refl)
 
 -- One that runs, by the steps and the phase that the code has found.
-module _ (m : Machine) (n steps phase : ℕ) (runs : m .timer .running ≡ true) (fits : m .timer .prescaler < 32)
+module _ (m : Machine) (n steps phase : ℕ) (runs : m .timer .running ≡ true) (formed : timerFormed (m .timer) ≡ true)
     (quotient : steps ≡ (m .timer .phase + n) / 2 ^ (m .timer .prescaler % 32)) (remainder : phase ≡ (m .timer .phase + n) % 2 ^ (m .timer .prescaler % 32)) where
   found : afterSteps steps phase m ≡ timerAfter n m
   unfolding timerAfter
   found =
       let total = m .timer .phase + n in
       let p = m .timer .prescaler in
-      let low : p % 32 ≡ p = omega (arith, fits) in
+      let low : p % 32 ≡ p = omega (arith, running (m .timer) runs formed .scaled) in
       ap (λ (s : ℕ). afterSteps s phase m) (quotient ∙ ap (λ (q : ℕ). total / 2 ^ q) low)
       ∙ ap (λ (f : ℕ). afterSteps (total / 2 ^ p) f m) (remainder ∙ ap (λ (q : ℕ). total % 2 ^ q) low)
       ∙ sym (ap (λ (t : Bool). cond t (afterSteps (total / 2 ^ p) (total % 2 ^ p) m) m) runs)

@@ -24,11 +24,11 @@ storedWrapped eeprom latch address zero = eeprom
 storedWrapped eeprom latch address (suc n) = set (storedWrapped eeprom latch address n) ((address + n) % 512) (getD latch (n % 16) 0)
 
 -- The programming that runs ends; and it goes on, with so many clocks left.
-abbrev pub ended : Machine → Machine
-ended m = whileProgramming (λ a bs left. programmed a bs m) m (m .command)
+abbrev pub programmingEnded : Machine → Machine
+programmingEnded m = whileProgramming (λ a bs left. programmed a bs m) m (m .command)
 
-abbrev pub leftWith : ℕ → Machine → Machine
-leftWith n m = whileProgramming (λ a bs left. withCommand (WriteE2 (programming a bs n)) m) m (m .command)
+abbrev pub programmingLeft : ℕ → Machine → Machine
+programmingLeft n m = whileProgramming (λ a bs left. withCommand (WriteE2 (programming a bs n)) m) m (m .command)
 
 -- The machine turns by a function where the chip's own fields agree, and where the chip is well formed.
 abbrev pub TurnsAgreeing : (Machine → Machine) → (Chip → Chip) → (Chip → Chip) → Type 0

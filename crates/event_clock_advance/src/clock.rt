@@ -2,13 +2,11 @@
 ghost use mathlib.Core.Bool.{not, _&&_};
 ghost use mathlib.Core.Path.{_≡_};
 ghost use lib.Dec.{eqb, leb};
-ghost use Rattle.machine.specs.Events.{clocks as Events·clocks, advanced as Events·advanced};
+ghost use Rattle.machine.specs.Events.{clocks as Events·clocks};
 ghost use Rattle.event_clock_advance.specs.Clock.{clockedIn, TurnsFormed};
 use crate::programming::programmed;
 use crate::timer::timer_clocked;
 use state::LEFT;
-use state_fifo::alerted;
-use state_fifo::alerts_of;
 
 // A programming with so many clocks left ends within so many.
 fn ends_within(left: u32, rest: u32) -> bool
@@ -18,7 +16,7 @@ fn ends_within(left: u32, rest: u32) -> bool
 }
 
 // So many clocks. They are split here and nowhere else: at the end of each programming. Where bytes wait the next one begins there.
-fn clocked_times(
+pub fn clocked_times(
     clocks: &mut [u32; 2],
     numbers: &mut [u16; 6],
     state: &mut [u8; 24],
@@ -48,27 +46,4 @@ fn clocked_times(
         return;
     }
     clocks[LEFT] = left - rest;
-}
-
-// So many clocks, with the alerts judged over them all.
-pub fn advanced(
-    clocks: &mut [u32; 2],
-    numbers: &mut [u16; 6],
-    state: &mut [u8; 24],
-    registers: &[u8; 32],
-    slots: &[u8; 64],
-    latch: &mut [u8; 16],
-    eeprom: &mut [u8; 512],
-    by: u32,
-)
-    ensures { λ r.
-        let before = clockedIn (now (clocks .entry)) (now (numbers .entry)) (now (state .entry)) (now (registers .entry))
-        (now (slots .entry)) (now (latch .entry)) (now (eeprom .entry)) in
-        let after = clockedIn (now (clocks .exit)) (now (numbers .exit)) (now (state .exit)) (now (registers .entry))
-        (now (slots .entry)) (now (latch .exit)) (now (eeprom .exit)) in
-        ⌜ TurnsFormed (Events·advanced by) before after ⌝ }
-{
-    let before = alerts_of(state, registers);
-    clocked_times(clocks, numbers, state, registers, slots, latch, eeprom, by);
-    alerted(state, registers, before);
 }

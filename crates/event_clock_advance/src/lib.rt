@@ -3,6 +3,8 @@ ghost use mathlib.Core.List.{[]};
 ghost use Rattle.machine.specs.Refusals.{advance as Refusals·advance};
 ghost use Rattle.state.specs.Lent.{assembled};
 ghost use Rattle.state.specs.Meets.{Promises};
+use state_fifo::alerted;
+use state_fifo::alerts_of;
 use state_formed::formed;
 use state_formed::quick;
 
@@ -34,6 +36,8 @@ pub fn advance<'a>(
             return 7;
         }
     }
-    clock::advanced(clocks, numbers, state, registers, slots, latch, eeprom, by);
+    let before = alerts_of(state, registers);
+    clock::clocked_times(clocks, numbers, state, registers, slots, latch, eeprom, by);
+    alerted(state, registers, before);
     0
 }

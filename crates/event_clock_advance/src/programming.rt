@@ -2,7 +2,7 @@
 ghost use mathlib.Core.Path.{_≡_};
 ghost use Rattle.state.specs.View.{at};
 ghost use Rattle.state.specs.Lent.{clocksNumbersStateSlotsLatchEeprom};
-ghost use Rattle.event_clock_advance.specs.Clock.{storedWrapped, ended, TurnsAgreeing};
+ghost use Rattle.event_clock_advance.specs.Clock.{storedWrapped, programmingEnded, TurnsAgreeing};
 use command_write_e2::batch_start;
 use command_write_e2::bytes_latched;
 use state::LATCHED;
@@ -43,7 +43,7 @@ pub fn programmed(
         (now (slots .entry)) (now (latch .entry)) (now (eeprom .entry)) in
         let after = clocksNumbersStateSlotsLatchEeprom (now (clocks .exit)) (now (numbers .exit)) (now (state .exit))
         (now (slots .entry)) (now (latch .exit)) (now (eeprom .exit)) in
-        ⌜ ((at (now (clocks .entry)) 1 ≡ 0 → ⊥) → TurnsAgreeing ended before after) ⌝ }
+        ⌜ ((at (now (clocks .entry)) 1 ≡ 0 → ⊥) → TurnsAgreeing programmingEnded before after) ⌝ }
 {
     let latched = state[LATCHED];
     let waiting = held(state);

@@ -11,10 +11,10 @@ use Rattle.machine.specs.State.{Machine, Command, WriteE2, programming, 
 use Rattle.machine.specs.Timer.{TAutoRestart, TimerReload, stoppedAt, runningAt, raisedTimer}
 use Rattle.machine.specs.Memory.{bytesFrom}
 use Rattle.machine.specs.Commands.{programs}
-use Rattle.machine.specs.Refusals.{hostWrite, advance}
+use Rattle.machine.specs.Refusals.{Call, advance}
 use Rattle.machine.specs.Events.{programmed, clock, clocks}
 use Rattle.machine.specs.WellFormedness.{Formed}
-use Rattle.machine.specs.Numbers.{afterStart, command}
+use Rattle.machine.specs.Numbers.{afterStart, command, timerRun}
 
 -- A running timer after so many steps, and so many clocks of the next one. Fewer steps than its value are taken off it. With as many or more the request is set;
 -- by TAutoRestart, where TimerReload is not 0, the steps left over have gone round TimerReload, and else the timer is stopped at 0.
@@ -45,13 +45,11 @@ endsWithin zero m = 0
 endsWithin (suc n) m = endsNext (m .command) + endsWithin n (clock m)
 
 -- Five bytes for 16Ch, and one advance: the first is programmed alone, the next three up to the end of its block, and the last in the block behind.
-abbrev pub fiveBytes : ℕ → Machine
-fiveBytes n = afterStart (command 0x01 (0x6C ∷ 0x01 ∷ 0xD1 ∷ 0xD2 ∷ 0xD3 ∷ 0xD4 ∷ 0xD5 ∷ []) ++ advance n ∷ [])
+abbrev pub fiveWritten : List Call
+fiveWritten = command 0x01 (0x6C ∷ 0x01 ∷ 0xD1 ∷ 0xD2 ∷ 0xD3 ∷ 0xD4 ∷ 0xD5 ∷ [])
 
--- Paging off, TimerReload, TimerClock, TStartNow, and one advance.
-abbrev pub timerRun : ℕ → ℕ → ℕ → Machine
-timerRun reload timerClock n =
-    afterStart (hostWrite 0x00 0x00 ∷ hostWrite 0x2C reload ∷ hostWrite 0x2A timerClock ∷ hostWrite 0x09 0x02 ∷ advance n ∷ [])
+abbrev pub fiveBytes : ℕ → Machine
+fiveBytes n = afterStart (fiveWritten ++ advance n ∷ [])
 
 pub record ManyClocks : Type 0 where
   -- The clocks of a sum are those of its parts, one after the other.
@@ -74,8 +72,8 @@ pub record ManyClocks : Type 0 where
   pub five-bytes-request : fiveBytes 235_944 .status .requests .tx ≡ true
   pub five-bytes-no-request : fiveBytes 235_943 .status .requests .tx ≡ false
   -- The longest that a timer runs: TimerReload 255, TPreScaler 21.
-  pub longest-run-ends : timerRun 255 21 534_773_760 .status .requests .timer ≡ true
-  pub longest-run-lasts : timerRun 255 21 534_773_759 .status .requests .timer ≡ false
+  pub longest-run-ends : afterStart (timerRun 255 21 534_773_760) .status .requests .timer ≡ true
+  pub longest-run-lasts : afterStart (timerRun 255 21 534_773_759) .status .requests .timer ≡ false
   -- The most clocks of one call, with a timer that restarts: TimerReload 3 and TPreScaler 1, and TimerReload 1 and TPreScaler 0.
-  pub restarts-3 : timerRun 3 0x21 4_294_967_295 .timer ≡ runningAt 2 1 1
-  pub restarts-1 : timerRun 1 0x20 4_294_967_295 .timer ≡ runningAt 1 0 0
+  pub restarts-3 : afterStart (timerRun 3 0x21 4_294_967_295) .timer ≡ runningAt 2 1 1
+  pub restarts-1 : afterStart (timerRun 1 0x20 4_294_967_295) .timer ≡ runningAt 1 0 0

@@ -70,9 +70,12 @@ loadConfig address = afterDistinct (command 0x07 (lowHigh address))
 abbrev pub readE2 : ℕ → ℕ → Machine
 readE2 address count = afterDistinct (command 0x03 (lowHigh address ++ count ∷ []))
 
--- Paging off, TimerReload 3, TPreScaler 1, TStartNow, and clocks.
-abbrev pub timerRun : ℕ → List Call
-timerRun clocks = hostWrite 0x00 0x00 ∷ hostWrite 0x2C 3 ∷ hostWrite 0x2A 1 ∷ hostWrite 0x09 0x02 ∷ advance clocks ∷ []
+-- Paging off, TimerReload, TimerClock and TStartNow; and the same with clocks behind them.
+abbrev pub timerStart : ℕ → ℕ → List Call
+timerStart reload timerClock = hostWrite 0x00 0x00 ∷ hostWrite 0x2C reload ∷ hostWrite 0x2A timerClock ∷ hostWrite 0x09 0x02 ∷ []
+
+abbrev pub timerRun : ℕ → ℕ → ℕ → List Call
+timerRun reload timerClock clocks = timerStart reload timerClock ++ advance clocks ∷ []
 
 pub record NumbersToMeet : Type 0 where
   -- From preset 6363h the checksum of 00 00 is A0 1E, and that of 12 34 is 26 CF. ChannelRedundancy 00h: 16 bits, not complemented.
@@ -113,5 +116,5 @@ pub record NumbersToMeet : Type 0 where
   pub read-e2-count-2 : readE2 0x07F 2 .status .errors .accessErr ≡ true
   pub read-e2-count-2-held : readE2 0x07F 2 .held ≡ []
   -- A timer with reload 3 and prescaler 1 ends at its sixth clock.
-  pub timer-not-at-5 : afterStart (timerRun 5) .status .requests .timer ≡ false
-  pub timer-at-6 : afterStart (timerRun 6) .status .requests .timer ≡ true
+  pub timer-not-at-5 : afterStart (timerRun 3 1 5) .status .requests .timer ≡ false
+  pub timer-at-6 : afterStart (timerRun 3 1 6) .status .requests .timer ≡ true

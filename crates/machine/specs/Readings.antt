@@ -2,16 +2,16 @@
 -- Assumes nothing.
 use Prim.Native.Nat.{ℕ, _*_}
 use mathlib.Core.Bool.{true, false}
-use mathlib.Core.List.{List, [], _∷_, _++_, map}
+use mathlib.Core.List.{List, [], _∷_, _++_}
 use mathlib.Core.Path.{_≡_}
-use lib.ListN.{length, take, replicate, set}
+use lib.ListN.{take, replicate, set}
 use Rattle.machine.specs.State.{Machine, Idle, WriteE2, programming, withCommand, withHeld, fiveFlags}
 use Rattle.machine.specs.Fifo.{registerAt, firstOf}
 use Rattle.machine.specs.Memory.{programmingClocks}
 use Rattle.machine.specs.Refusals.{Call, hostRead, hostWrite, advance, takeFrame, deliver}
 use Rattle.machine.specs.Events.{Outcome, started, perform, afterCalls, byte, frame, clock}
 use Rattle.profile.specs.Shipped.{shippedImage}
-use Rattle.machine.specs.Numbers.{afterStart, offers, command}
+use Rattle.machine.specs.Numbers.{afterStart, offers, command, timerStart, timerRun}
 
 -- A chip whose EEPROM has the damaged profile, prescaler 24, at 030h-04Fh.
 abbrev pub afterDamaged : List Call → Machine
@@ -23,12 +23,7 @@ lastByte = withHeld (0x55 ∷ []) (withCommand (WriteE2 (programming 0x1FF (0xAA
 
 -- A timer that runs with prescaler 1 and reload 3 gets TPreScaler 0, and clocks.
 abbrev pub newPrescaler : ℕ → List Call
-newPrescaler clocks =
-    hostWrite 0x00 0x00 ∷ hostWrite 0x2C 3 ∷ hostWrite 0x2A 1 ∷ hostWrite 0x09 0x02 ∷ hostWrite 0x2A 0 ∷ advance clocks ∷ []
-
--- Reload 2, prescaler 3, and clocks.
-abbrev pub prescaler3 : ℕ → List Call
-prescaler3 clocks = hostWrite 0x00 0x00 ∷ hostWrite 0x2C 2 ∷ hostWrite 0x2A 3 ∷ hostWrite 0x09 0x02 ∷ advance clocks ∷ []
+newPrescaler clocks = timerStart 3 1 ++ (hostWrite 0x2A 0 ∷ advance clocks ∷ [])
 
 -- Paging off, ChannelRedundancy 0Fh (odd parity, a CRC sent and checked; the shipped presets are 6363h).
 abbrev pub withCRC : List Call
@@ -72,8 +67,8 @@ pub record Readings : Type 0 where
   pub programming-goes-on :
       clock (withCommand (WriteE2 (programming 0x16C (0xAA ∷ []) 2)) (started shippedImage)) .command ≡ WriteE2 (programming 0x16C (0xAA ∷ []) 1)
   -- with prescaler 3 a timer step has 8 clocks, so that reload 2 is over after 16: manual 5.2
-  pub prescaler-3-not-at-15 : afterStart (prescaler3 15) .status .requests .timer ≡ false
-  pub prescaler-3-at-16 : afterStart (prescaler3 16) .status .requests .timer ≡ true
+  pub prescaler-3-not-at-15 : afterStart (timerRun 2 3 15) .status .requests .timer ≡ false
+  pub prescaler-3-at-16 : afterStart (timerRun 2 3 16) .status .requests .timer ≡ true
   -- ReadE2 answers the memory's bytes, and a start loads them: 011h and 012h are shipped as 58h and 3Fh
   pub read-e2-bytes : afterStart (command 0x03 (0x11 ∷ 0x00 ∷ 2 ∷ [])) .held ≡ 0x58 ∷ 0x3F ∷ []
   pub start-loads : registerAt (afterStart []) 0x11 ≡ 0x58

@@ -62,7 +62,7 @@ pub fn timer_steps(chip: &Chip, clocks: u32) -> u64 {
         return 0;
     }
     let steps = (u64::from(memory.timer_phase) + u64::from(clocks)) >> memory.timer_prescaler;
-    let [timer_clock, _, reload] = memory.registers[0x2A - 0x10..=0x2C - 0x10] else { return steps };
+    let (timer_clock, reload) = (memory.registers[0x2A - 0x10], memory.registers[0x2C - 0x10]);
     if timer_clock & T_AUTO_RESTART != 0 && reload != 0 {
         steps
     } else {

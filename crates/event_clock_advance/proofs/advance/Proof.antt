@@ -1,19 +1,26 @@
 -- `event_clock_advance::advance` meets its contract, by the refusals in their order. Assumes nothing.
 use denote.Ref.{now}
-use mathlib.Core.Path.{_≡_, refl, sym, _∙_}
+use Prim.Native.Nat.{ℕ}
+use mathlib.Core.Path.{_≡_, refl, sym, ap, _∙_}
 use mathlib.Core.Bool.{true}
 use mathlib.Core.List.{[]}
 use mathlib.Core.Logic.{⊎-elim}
 use borrow.Author.Tests.{not-true, not-false}
 use Rattle.machine.specs.Refusals.{advance}
-use Rattle.state.specs.View.{viewOf}
+use Rattle.machine.specs.Events.{clocks, advanced}
+use Rattle.state.specs.View.{view, viewOf}
 use Rattle.state.specs.Formed.{chipFormed}
 use Rattle.state.specs.Lent.{assembled}
 use Rattle.state.specs.Meets.{Whole}
+use Rattle.state.specs.Turns.{Turned}
 use Rattle.state.specs.declared.Chip.{Chip}
 use Rattle.state.proofs.MeetLaws.{malformed, advance-refusal, own-fields-formed, machine-formed, accepted-here}
+use Rattle.state.proofs.TurnLaws.{then, becomes}
+use Rattle.state_fifo.specs.Alerts.{alertedFrom}
+use Rattle.state_fifo.proofs.AlertLaws.{alerted-from}
 use Rattle.state_formed.proofs.ClauseLaws.{usual-formed}
 use borrow.Author.Needs.{needs}
+use Rattle.event_clock_advance.specs.Clock.{clockedIn}
 use Rattle.event_clock_advance.proofs.advance.Statement.{statement}
 use Rattle.event_clock_advance.proofs.advance.Tie as tie
 
@@ -44,23 +51,36 @@ returns c whole =
     let old = at-entry s in
     malformed old (advance (s .args .by)) tt (sym (c .before .formed .ensures old (whole .sizes)) ∙ not-true _ (c .if2 .taken)) whole
 
-advanced-requires : tie.Need-advanced-requires
-advanced-requires c κs = search needs
+alerts-of-requires : tie.Need-alerts-of-requires
+alerts-of-requires c κs = search needs
 
+clocked-times-requires : tie.Need-clocked-times-requires
+clocked-times-requires c κs = search needs
+
+alerted-requires : tie.Need-alerted-requires
+alerted-requires c κs = search needs
+
+-- The clocks, and then the alerts against those before.
 returns-2 : tie.Need-returns-2
-unfolding viewOf
+unfolding viewOf advanced
 returns-2 c whole =
-    let past = c .before .before .before .before .before .before in
+    let runs = c .before .before in
+    let asked = runs .before .before .before .before .before .before in
+    let past = asked .before .before in
     let s = began past in
     let a = s .args in
     let old = at-entry s in
     let formed = well-formed past whole in
     let agrees = own-fields-formed old formed in
-    let after = c .advanced .last in
-    let next = assembled (after .0) (after .1 .0) (after .1 .1 .0) (now (a .registers)) (now (a .slots)) (after .1 .1 .1 .1 .1 .0) (now (a .key)) (after .1 .1 .1 .1 .1 .1 .0) in
-    let runs = c .advanced .ensures old (whole .sizes) agrees (machine-formed old formed whole) in
+    let after = runs .clocked-times .last in
+    let had = clockedIn (after .0) (after .1 .0) (after .1 .1 .0) (now (a .registers)) (now (a .slots)) (after .1 .1 .1 .1 .1 .0) (after .1 .1 .1 .1 .1 .1 .0) old in
+    let often : Turned (clocks (a .by)) old had = runs .clocked-times .ensures old (whole .sizes) agrees (machine-formed old formed whole) in
+    let turned =
+    becomes (advanced (a .by)) (then often (c .alerted .ensures had (often .sizes)))
+    (ap (λ (n : ℕ). alertedFrom n (clocks (a .by) (view old))) (asked .alerts-of .ensures .0 old) ∙ alerted-from (view old) (clocks (a .by) (view old))) in
+    let next = assembled (after .0) (after .1 .0) (c .alerted .last .0) (now (a .registers)) (now (a .slots)) (after .1 .1 .1 .1 .1 .0) (now (a .key)) (after .1 .1 .1 .1 .1 .1 .0) in
     accepted-here old formed (advance (a .by)) next 0 [] tt whole (advance-refusal old formed (a .by))
-    (record { answered = refl; turned = runs .machine; lent = refl; fields = runs .fields agrees; sizes = runs .sizes })
+    (record { answered = refl; turned = turned .machine; lent = refl; fields = turned .fields agrees; sizes = turned .sizes })
 
 pub advance-spec : {M : Type 1} → statement M
-advance-spec = tie.close (tie.spec quick-requires formed-requires returns advanced-requires returns-2)
+advance-spec = tie.close (tie.spec quick-requires formed-requires returns alerts-of-requires clocked-times-requires alerted-requires returns-2)

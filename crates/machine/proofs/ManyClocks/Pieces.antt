@@ -25,20 +25,21 @@ last-clock : (n : ℕ) (m : Machine) → clocks (suc n) m ≡ clock (clocks n m)
 unfolding clocks
 last-clock n m = let e : suc n ≡ n + 1 = omega arith in ap (λ (k : ℕ). clocks k m) e ∙ in-parts n 1 m
 
--- So many clocks of the timer alone, the last one behind the others. They leave the command and the EEPROM.
+-- So many clocks of the timer alone, the last one behind the others. What each of them keeps they keep: the command, and the EEPROM.
 pub timerClocks : ℕ → Machine → Machine
 timerClocks zero m = m
 timerClocks (suc n) m = timerClock (timerClocks n m)
 
-same-command : (n : ℕ) (m : Machine) → timerClocks n m .command ≡ m .command
+keep : (P : Machine → Type 0) → ((x : Machine) → P x → P (timerClock x)) → (n : ℕ) (m : Machine) → P m → P (timerClocks n m)
 unfolding timerClocks
-same-command zero m = refl
-same-command (suc n) m = timer-command (timerClocks n m) ∙ same-command n m
+keep P each zero m p = p
+keep P each (suc n) m p = each (timerClocks n m) (keep P each n m p)
+
+same-command : (n : ℕ) (m : Machine) → timerClocks n m .command ≡ m .command
+same-command n m = keep (λ (x : Machine). x .command ≡ m .command) (λ x same. timer-command x ∙ same) n m refl
 
 pub same-eeprom : (n : ℕ) (m : Machine) → timerClocks n m .eeprom ≡ m .eeprom
-unfolding timerClocks
-same-eeprom zero m = refl
-same-eeprom (suc n) m = timer-eeprom (timerClocks n m) ∙ same-eeprom n m
+same-eeprom n m = keep (λ (x : Machine). x .eeprom ≡ m .eeprom) (λ x same. timer-eeprom x ∙ same) n m refl
 
 -- Of a timer that is formed they are those of the formula.
 by-formula : (n : ℕ) (m : Machine) → timerFormed (m .timer) ≡ true → timerClocks n m ≡ timerAfter n m
@@ -88,6 +89,9 @@ module _ (m : Machine) (a left : ℕ) (bs : List ℕ) (is : m .command ≡ Write
 
 -- The same, by the formula.
 module _ (m : Machine) (formed : timerFormed (m .timer) ≡ true) where
+  pub formula-command : (n : ℕ) → timerAfter n m .command ≡ m .command
+  formula-command n = ap (λ (x : Machine). x .command) (sym (by-formula n m formed)) ∙ same-command n m
+
   pub timer-alone : programs (m .command) ≡ false → (n : ℕ) → clocks n m ≡ timerAfter n m
   timer-alone idle n = alone n m idle ∙ by-formula n m formed
 

@@ -11,10 +11,10 @@ use Rattle.machine.specs.Memory.{bytesFrom, storedFrom, overRegisters, p
 use Rattle.machine.specs.Commands.{programs, commandWritten, stepped, settled}
 use Rattle.machine.specs.Registers.{registerWritten}
 use Rattle.machine.specs.WellFormed.{wellFormed}
-use Rattle.machine.specs.Refusals.{hostWrite, advance, refuseIf, refusal}
+use Rattle.machine.specs.Refusals.{advance, refuseIf, refusal}
 use Rattle.machine.specs.Events.{Outcome, started, written, programmed, clocks, advanced, perform, afterCalls}
-use Rattle.machine.specs.Numbers.{afterStart, command}
-use Rattle.machine.specs.ManyClocks.{timerAfter, fiveBytes, timerRun, ManyClocks}
+use Rattle.machine.specs.Numbers.{afterStart, timerStart, timerRun}
+use Rattle.machine.specs.ManyClocks.{timerAfter, fiveWritten, fiveBytes, ManyClocks}
 use Rattle.machine.proofs.Performing.{as-accepted}
 use Rattle.machine.proofs.WellFormed.Parts.{well-held, well-timer, some-left}
 use Rattle.machine.proofs.ManyClocks.Pieces.{in-parts, timer-alone, before-end, at-end}
@@ -22,7 +22,7 @@ use Rattle.machine.proofs.ManyClocks.Six.{at-most-six}
 
 -- Five bytes for 16Ch: before any clock, and after each programming.
 abbrev first : Machine
-first = afterStart (command 0x01 (0x6C ∷ 0x01 ∷ 0xD1 ∷ 0xD2 ∷ 0xD3 ∷ 0xD4 ∷ 0xD5 ∷ []))
+first = afterStart fiveWritten
 
 abbrev second : Machine
 second = programmed 0x16C (0xD1 ∷ []) (timerAfter programmingClocks first)
@@ -57,10 +57,10 @@ one-short = five-bytes 235_943 ∙ ap (alerted first) (two-end 78_647 ∙ before
 
 -- A timer that is started and left alone.
 abbrev ready : ℕ → ℕ → Machine
-ready reload timerClock = afterStart (hostWrite 0x00 0x00 ∷ hostWrite 0x2C reload ∷ hostWrite 0x2A timerClock ∷ hostWrite 0x09 0x02 ∷ [])
+ready reload timerClock = afterStart (timerStart reload timerClock)
 
 module _ (reload timerClock : ℕ) (well : wellFormed (ready reload timerClock) ≡ true) (idle : programs (ready reload timerClock .command) ≡ false) where
-  timer-run : (n : ℕ) → timerRun reload timerClock n ≡ alerted (ready reload timerClock) (timerAfter n (ready reload timerClock))
+  timer-run : (n : ℕ) → afterStart (timerRun reload timerClock n) ≡ alerted (ready reload timerClock) (timerAfter n (ready reload timerClock))
   unfolding afterCalls refusal advanced
   timer-run n =
       let m = ready reload timerClock in

@@ -6,15 +6,14 @@ use native.Mathlib.Numerals.{add-one}
 use native.Mathlib.Omega.{arith}
 use mathlib.Core.Path.{_≡_, refl, sym, ap, _∙_}
 use mathlib.Core.Bool.{Bool, true, false, cond, not, _&&_, true≢false}
-use lib.Dec.{ltb, leb, eqb}
+use lib.Dec.{ltb, eqb}
 use lib.Pow.{pow-pos}
-use borrow.Author.Tests.{ltb-true, ltb-false, lt-ltb, le-ltb, leb-true}
+use borrow.Author.Tests.{ltb-true, ltb-false, lt-ltb, le-ltb}
 use Rattle.machine.specs.State.{Machine, Timer, withTimer}
 use Rattle.machine.specs.Timer.{TAutoRestart, TimerReload, stoppedAt, runningAt, restarted, raisedTimer, timerStepped, timerClock}
 use Rattle.machine.specs.WellFormed.{timerFormed}
 use Rattle.machine.specs.ManyClocks.{afterSteps, timerAfter}
-use Rattle.machine.proofs.Cases.{either}
-use Rattle.machine.proofs.WellFormed.Parts.{each}
+use Rattle.machine.proofs.WellFormed.Timer.{running}
 
 -- A count by a period: one more is one more of the remainder, or of the quotient.
 module _ (c period : ℕ) (some : 0 < period) where
@@ -197,23 +196,14 @@ module _ (m : Machine) where
 
       go : (t : Bool) → m .timer .running ≡ t → cond t (afterSteps (total / 2 ^ p) (total % 2 ^ p) m) m ≡ m
       go true on =
-          let (low, h₁) = each (leb 1 v) _ (rw on at formed) in
-          let (high, h₂) = each (leb v 255) _ h₁ in
-          let (scaled, phased) = each (leb p 21) _ h₂ in
-          let within = ltb-true (m .timer .phase) (2 ^ p) phased in
+          let run = running (m .timer) on formed in
           let same : total ≡ m .timer .phase = omega arith in
-          let quotient : total / 2 ^ p ≡ 0 = ap (λ (k : ℕ). k / 2 ^ p) same ∙ div-eq-of-lt within in
-          let remainder : total % 2 ^ p ≡ m .timer .phase = ap (λ (k : ℕ). k % 2 ^ p) same ∙ mod-eq-of-lt within in
+          let quotient : total / 2 ^ p ≡ 0 = ap (λ (k : ℕ). k / 2 ^ p) same ∙ div-eq-of-lt (run .phased) in
+          let remainder : total % 2 ^ p ≡ m .timer .phase = ap (λ (k : ℕ). k % 2 ^ p) same ∙ mod-eq-of-lt (run .phased) in
           let whole : v - 0 ≡ v = omega arith in
           ap (λ (k : ℕ). afterSteps k (total % 2 ^ p) m) quotient
           ∙ ap (λ (k : ℕ). afterSteps 0 k m) remainder
-          ∙ is-below 0 (m .timer .phase) (omega (arith, leb-true 1 v low))
+          ∙ is-below 0 (m .timer .phase) (run .low)
           ∙ ap (λ (k : ℕ). withTimer (runningAt k p (m .timer .phase)) m) whole
           ∙ ap (λ (b : Bool). withTimer (record { running = b; value = v; prescaler = p; phase = m .timer .phase }) m) (sym on)
       go false off = refl
-
-  -- It is the timer that changes, and its request; whatever command is active.
-  pub after-any : (P : Machine → Type 0) → P m → ((t : Timer) → P (withTimer t m)) → ((t : Timer) → P (withTimer t (raisedTimer m))) → (n : ℕ) → P (timerAfter n m)
-  unfolding timerAfter
-  after-any P kept changed raised n =
-      either P (m .timer .running) _ m (either P (ltb ((m .timer .phase + n) / 2 ^ p) v) _ _ (changed _) (raised _)) kept

@@ -29,13 +29,13 @@ running-formed : (v p k : ℕ) → 1 ≤ v → v ≤ 255 → p ≤ 21 → k < 2 
 running-formed v p k low high scaled phased = both (le-leb 1 v low) (both (le-leb v 255 high) (both (le-leb p 21 scaled) (lt-ltb k (2 ^ p) phased)))
 
 -- What a running timer has.
-record Running (t : Timer) : Type 0 where
-  low : 1 ≤ t .value
+pub record Running (t : Timer) : Type 0 where
+  pub low : 1 ≤ t .value
   high : t .value ≤ 255
-  scaled : t .prescaler ≤ 21
-  phased : t .phase < 2 ^ (t .prescaler)
+  pub scaled : t .prescaler ≤ 21
+  pub phased : t .phase < 2 ^ (t .prescaler)
 
-running : (t : Timer) → t .running ≡ true → timerFormed t ≡ true → Running t
+pub running : (t : Timer) → t .running ≡ true → timerFormed t ≡ true → Running t
 running t on h =
     let (low, h₁) = each (leb 1 (t .value)) _ (rw on at h) in
     let (high, h₂) = each (leb (t .value) 255) _ h₁ in

@@ -140,7 +140,7 @@ loop-again c =
           let ticks = timed .timer-clocked .ensures x (so-far turn chip sizes formed well .sizes) (agrees turn chip sizes formed well) (well-here turn chip sizes formed well) in
           let y = clocksState (timed .timer-clocked .last .0) (timed .timer-clocked .last .1 .0) x in
           let is = is-run turn chip sizes formed well some in
-          let ends = done .programmed .ensures (still-left y (view x) left (ticks .machine) (ap programs is)) y (ticks .sizes) (ticks .fields (agrees turn chip sizes formed well)) in
+          let ends = done .programmed .ensures (still-left (view x) (well-here turn chip sizes formed well) y left (ticks .machine) (ap programs is)) y (ticks .sizes) (ticks .fields (agrees turn chip sizes formed well)) in
           further turn chip sizes formed well left within
           (becomes (clocks left) (then ticks ends) (piece-ends (view x) (well-here turn chip sizes formed well) (batchStart (k .next) (k .latched)) left (take (k .latched) (turn .loop .latch)) is)),
     )
@@ -192,7 +192,7 @@ returns-2 c chip sizes formed well =
     let y = clocksState (timed .timer-clocked2 .last .0) (timed .timer-clocked2 .last .1 .0) x in
     let is = is-run turn chip sizes formed well (c .if2 .left) in
     let counts =
-    left-turns y (left - rest) (ticks .sizes) (ticks .fields (agrees turn chip sizes formed well)) (still-left y (view x) rest (ticks .machine) (ap programs is)) (omega (arith, past c)) in
+    left-turns y (left - rest) (ticks .sizes) (ticks .fields (agrees turn chip sizes formed well)) (still-left (view x) (well-here turn chip sizes formed well) y rest (ticks .machine) (ap programs is)) (omega (arith, past c)) in
     all turn chip
     (further turn chip sizes formed well rest (omega arith)
     (becomes (clocks rest) (then ticks counts)

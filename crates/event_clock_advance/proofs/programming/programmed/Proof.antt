@@ -16,7 +16,7 @@ use Rattle.state.specs.declared.Chip.{Chip}
 use Rattle.state.proofs.RingLaws.{count-length}
 use Rattle.state.proofs.StoreLaws.{next-near}
 use Rattle.state.proofs.TurnLaws.{then, becomes}
-use Rattle.event_clock_advance.specs.Clock.{storedWrapped, ended}
+use Rattle.event_clock_advance.specs.Clock.{storedWrapped, programmingEnded}
 use Rattle.event_clock_advance.proofs.BatchLaws.{batch-few, batch-inside, batch-next, batch-turns, end-waits, end-latches, wrapped-fits, wrapped-whole, programs-here, is-programming}
 use borrow.Author.Needs.{needs}
 use Rattle.event_clock_advance.proofs.programming.programmed.Statement.{statement}
@@ -83,7 +83,7 @@ stored copy fits chip sizes formed =
 
 -- The programming that ends is that of these bytes.
 is-ended : (copy : tie.After-store-batch) (chip : Chip) → fieldsFormed (at-entry copy chip) ≡ true → (at (now (began copy .args .clocks)) 1 ≡ 0 → ⊥) →
-    let m = view (at-entry copy chip) in ended m ≡ programmed (batchStart (next copy) (latched copy)) (take (latched copy) (now (began copy .args .latch))) m
+    let m = view (at-entry copy chip) in programmingEnded m ≡ programmed (batchStart (next copy) (latched copy)) (take (latched copy) (now (began copy .args .latch))) m
 unfolding viewOf
 is-ended copy chip formed some =
     let old = at-entry copy chip in
@@ -101,7 +101,7 @@ returns c some chip sizes formed =
     let (writing, fits) = programs-here (at-entry copy chip) formed some in
     let stores = stored copy fits chip sizes formed in
     let none = sym (count-length (copy .before .before .before .before .before .held .ensures) (now (a .slots))) ∙ empty .if1 .taken in
-    becomes ended (then stores (c .requested .ensures (done copy chip) (stores .sizes)))
+    becomes programmingEnded (then stores (c .requested .ensures (done copy chip) (stores .sizes)))
     (end-waits (batchStart (next copy) (latched copy)) (take (latched copy) latch) m none ∙ sym (is-ended copy chip formed some))
 
 bytes-latched-requires : tie.Need-bytes-latched-requires
@@ -121,7 +121,7 @@ returns-2 c some chip sizes formed =
     let (writing, fits) = programs-here (at-entry copy chip) formed some in
     let stores = stored copy fits chip sizes formed in
     let count = count-length (copy .before .before .before .before .before .held .ensures) (now (a .slots)) in
-    becomes ended (then stores (c .bytes-latched .ensures (done copy chip) (stores .sizes)))
+    becomes programmingEnded (then stores (c .bytes-latched .ensures (done copy chip) (stores .sizes)))
     (ap (λ (n : ℕ). writeStepped (ready n) (batchStored start bytes m)) (batch-next (next copy) (latched copy) fits near latch (sizes .latch-count))
     ∙ end-latches start bytes m (λ none. waits .if1 .left (count ∙ none))
     ∙ sym (is-ended copy chip formed some))

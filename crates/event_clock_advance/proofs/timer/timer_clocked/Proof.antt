@@ -1,8 +1,10 @@
 -- `event_clock_advance::timer::timer_clocked` meets its contract: a timer that rests, one whose value falls, one that goes round TimerReload, and one that stops. Assumes nothing.
 use denote.Ref.{now}
-use Prim.Native.Nat.{ℕ}
-use mathlib.Core.Path.{refl, sym, ap, _∙_}
-use lib.Dec.{lit<}
+use Prim.Native.Nat.{ℕ, _<_, _≤_}
+use native.Mathlib.Omega.{arith}
+use mathlib.Core.Path.{_≡_, refl, sym, ap, _∙_}
+use mathlib.Core.Bool.{true}
+use lib.Dec.{eqb, lit<}
 use lib.ListN.{set}
 use borrow.Author.Needs.{needs}
 use borrow.Author.Tests.{eq-eqb, ne-eqb, leb-true, leb-false, not-true, not-false}
@@ -16,7 +18,7 @@ use Rattle.state.specs.Lent.{clocksState, clocksStateRegisters}
 use Rattle.state.specs.declared.Chip.{Chip}
 use Rattle.state.proofs.StoreLaws.{set-byte}
 use Rattle.state.proofs.TurnLaws.{stays, then, becomes}
-use Rattle.event_clock_advance.proofs.TimerLaws.{goesOn, valueGone, formed-fits, goes-on, after-rests, after-falls, after-restarts, after-stops}
+use Rattle.event_clock_advance.proofs.TimerLaws.{goesOn, valueGone, goes-on, after-rests, after-falls, after-restarts, after-stops}
 use Rattle.event_clock_advance.proofs.timer.timer_clocked.Statement.{statement}
 use Rattle.event_clock_advance.proofs.timer.timer_clocked.Tie as tie
 
@@ -26,6 +28,27 @@ began asked = asked .before .before .before .before .before .before .before .bef
 
 abbrev at-entry : tie.Start → Chip → Chip
 at-entry s = let a = s .args in clocksStateRegisters (now (a .clocks)) (now (a .state)) (now (a .registers))
+
+-- The steps and the phase that are found, and the value before.
+abbrev steps : tie.After-comes-to-end → ℕ
+steps asked = asked .before .before .steps-made .result
+
+abbrev phase : tie.After-comes-to-end → ℕ
+phase asked = asked .before .phase-after .result
+
+abbrev value : tie.After-comes-to-end → ℕ
+value asked = at (now (began asked .args .state)) 15
+
+-- What the test for the end says of them.
+goes-on-still : (c : tie.Then2) → steps (c .before) < value (c .before)
+goes-on-still c = leb-false (value (c .before)) (steps (c .before)) (sym (c .before .comes-to-end .ensures) ∙ not-true _ (c .if2 .taken))
+
+comes-to-its-end : (c : tie.Else2) → value (c .before) ≤ steps (c .before)
+comes-to-its-end c = omega (arith, leb-true (value (c .before)) (steps (c .before)) (sym (c .before .comes-to-end .ensures) ∙ not-false _ (c .if2 .left)))
+
+-- The timer runs.
+runs : (asked : tie.After-comes-to-end) → eqb (at (now (began asked .args .state)) 8) 1 ≡ true
+runs asked = eq-eqb (at (now (began asked .args .state)) 8) 1 (asked .before .before .before .before .before .before .if1 .left)
 
 element-copy-out-if1 : tie.Need-element-copy-out-if1
 element-copy-out-if1 c = search needs
@@ -59,7 +82,7 @@ element-write-clocks : tie.Need-element-write-clocks
 element-write-clocks c = search needs
 
 fallen-requires : tie.Need-fallen-requires
-fallen-requires c κs = leb-false _ _ (sym (c .before .comes-to-end .ensures) ∙ not-true _ (c .if2 .taken))
+fallen-requires c κs = goes-on-still c
 
 element-write-state : tie.Need-element-write-state
 element-write-state c = search needs
@@ -70,12 +93,9 @@ returns-2 c chip sizes formed well =
     let asked = c .before .before in
     let a = began asked .args in
     let old = at-entry (began asked) chip in
-    let below = leb-false _ _ (sym (asked .comes-to-end .ensures) ∙ not-true _ (c .before .if2 .taken)) in
-    let next = asked .before .phase-after .result in
-    becomes (timerAfter (a .by)) (goes-on (now (a .clocks)) (now (a .state)) (c .fallen .result) next old sizes)
-    (ap (λ (v : ℕ). goesOn v next (view old)) (c .fallen .ensures)
-    ∙ after-falls (view old) (a .by) (asked .before .before .steps-made .result) next (eq-eqb (at (now (a .state)) 8) 1 (asked .before .before .before .before .before .before .if1 .left))
-    (formed-fits (view old .timer) (well-timer (view old) (well .well))) (asked .before .before .steps-made .ensures) (asked .before .phase-after .ensures) below)
+    becomes (timerAfter (a .by)) (goes-on (now (a .clocks)) (now (a .state)) (c .fallen .result) (phase asked) old sizes)
+    (ap (λ (v : ℕ). goesOn v (phase asked) (view old)) (c .fallen .ensures)
+    ∙ after-falls (view old) (a .by) (steps asked) (phase asked) (runs asked) (well-timer (view old) (well .well)) (asked .before .before .steps-made .ensures) (asked .before .phase-after .ensures) (goes-on-still (c .before)))
 
 sub-reload : tie.Need-sub-reload
 sub-reload c = search needs
@@ -97,10 +117,9 @@ element-write-clocks-2 c = search needs
 
 gone-round-requires : tie.Need-gone-round-requires
 gone-round-requires c κs =
-    let ended = c .before .before .before .before in (
-      leb-true _ _ (sym (ended .before .comes-to-end .ensures) ∙ not-false _ (ended .if2 .left)),
-      goes-round (bitSet (at (now (began (ended .before) .args .registers)) 0x1A) 5) (at (now (began (ended .before) .args .registers)) 0x1C) (sym (c .before .restarts .ensures) ∙ c .if3 .taken),
-    )
+    let ended = c .before .before .before .before in
+    let registers = now (began (ended .before) .args .registers) in
+    (comes-to-its-end ended, goes-round (bitSet (at registers 0x1A) 5) (at registers 0x1C) (sym (c .before .restarts .ensures) ∙ c .if3 .taken))
 
 element-write-state-2 : tie.Need-element-write-state-2
 element-write-state-2 c = search needs
@@ -117,15 +136,12 @@ returns-3 c chip sizes formed well =
     let asked = ended .before in
     let a = began asked .args in
     let old = at-entry (began asked) chip in
-    let all = leb-true _ _ (sym (asked .comes-to-end .ensures) ∙ not-false _ (ended .if2 .left)) in
-    let next = asked .before .phase-after .result in
-    let value = round .gone-round .result in
-    let stores = goes-on (now (a .clocks)) (now (a .state)) value next old sizes in
-    becomes (timerAfter (a .by)) (then stores (c .requested .ensures (clocksState (set (now (a .clocks)) 0 next) (set (now (a .state)) 15 value) old) (stores .sizes)))
-    (ap (λ (v : ℕ). raisedTimer (goesOn v next (view old))) (round .gone-round .ensures)
-    ∙ after-restarts (view old) (a .by) (asked .before .before .steps-made .result) next (eq-eqb (at (now (a .state)) 8) 1 (asked .before .before .before .before .before .before .if1 .left))
-    (formed-fits (view old .timer) (well-timer (view old) (well .well))) (asked .before .before .steps-made .ensures) (asked .before .phase-after .ensures) all
-    (sym (goes .before .restarts .ensures) ∙ goes .if3 .taken))
+    let next = round .gone-round .result in
+    let stores = goes-on (now (a .clocks)) (now (a .state)) next (phase asked) old sizes in
+    becomes (timerAfter (a .by)) (then stores (c .requested .ensures (clocksState (set (now (a .clocks)) 0 (phase asked)) (set (now (a .state)) 15 next) old) (stores .sizes)))
+    (ap (λ (v : ℕ). raisedTimer (goesOn v (phase asked) (view old))) (round .gone-round .ensures)
+    ∙ after-restarts (view old) (a .by) (steps asked) (phase asked) (runs asked) (well-timer (view old) (well .well)) (asked .before .before .steps-made .ensures) (asked .before .phase-after .ensures)
+    (comes-to-its-end ended) (sym (goes .before .restarts .ensures) ∙ goes .if3 .taken))
 
 timer-stopped-requires : tie.Need-timer-stopped-requires
 timer-stopped-requires c κs = search needs
@@ -145,14 +161,12 @@ returns-4 c chip sizes formed well =
     let asked = ended .before in
     let a = began asked .args in
     let old = at-entry (began asked) chip in
-    let all = leb-true _ _ (sym (asked .comes-to-end .ensures) ∙ not-false _ (ended .if2 .left)) in
     let stop = stops .timer-stopped .ensures old sizes in
     let l = stops .timer-stopped .last .1 .0 in
     let none = set-byte valueGone l 15 0 (clocksState (stops .timer-stopped .last .0) l old) (lit< tt) refl (stop .sizes) refl (λ bytes. refl) in
     becomes (timerAfter (a .by)) (then (then stop none) (c .requested2 .ensures (clocksState (stops .timer-stopped .last .0) (set l 15 0) old) (none .sizes)))
-    (after-stops (view old) (a .by) (asked .before .before .steps-made .result) (asked .before .phase-after .result) (eq-eqb (at (now (a .state)) 8) 1 (asked .before .before .before .before .before .before .if1 .left))
-    (formed-fits (view old .timer) (well-timer (view old) (well .well))) (asked .before .before .steps-made .ensures) (asked .before .phase-after .ensures) all
-    (sym (past .before .restarts .ensures) ∙ past .if3 .left))
+    (after-stops (view old) (a .by) (steps asked) (phase asked) (runs asked) (well-timer (view old) (well .well)) (asked .before .before .steps-made .ensures) (asked .before .phase-after .ensures)
+    (comes-to-its-end ended) (sym (past .before .restarts .ensures) ∙ past .if3 .left))
 
 pub timer-clocked-spec : {M : Type 1} → statement M
 timer-clocked-spec =

@@ -16,7 +16,7 @@ use std::path::Path;
 const MOST_IN_LINE: u64 = 4096;
 /// How many calls the history keeps.
 const MOST_IN_HISTORY: usize = 10_000;
-/// Timer steps that a waveform takes of one advance: some 25 megabytes of it.
+/// Timer steps that a waveform takes of one advance: 24 megabytes of it.
 const MOST_STEPS: u64 = 1_000_000;
 
 pub const HELP: &str = "\

@@ -39,7 +39,7 @@ static void show(const char *step)
 static void start(void)
 {
     const uint8_t *image = mfrc531_shipped_image();
-    done("profile", mfrc531_check_profile(image + MFRC531_PROFILE_ADDRESS, MFRC531_PROFILE_SIZE));
+    done("profile", mfrc531_check_profile(MFRC531_EDITION_MFRC531, image + MFRC531_PROFILE_ADDRESS, MFRC531_PROFILE_SIZE));
     done("start", mfrc531_start(&chip, image, MFRC531_EEPROM_SIZE));
     put(MFRC531_REG_PAGE, 0x00); /* linear addresses */
     show("started from the shipped image");

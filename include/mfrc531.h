@@ -1,4 +1,4 @@
-/* The reader bench: an MFRC531 card-reader chip in software.
+/* The reader bench: an MFRC531 or MF RC530 card-reader chip in software.
  *
  * The functions of the library are proved: for every chip, argument and buffer each one ends, and what it answers and leaves in memory is what
  * the definitions in crates/machine/specs give. What is not proved is this header, with the functions that stand in it, the C compiler, and that
@@ -12,9 +12,9 @@
  *
  * What a driver written for the chip has to know besides:
  *
- * Start. A chip is whatever memory you pass. mfrc531_start makes any memory a chip, and no other call asks whether there was a start. Zeros are
- * a well-formed chip, Idle and with zeros for registers and EEPROM: with a static mfrc531_chip a forgotten start goes unnoticed, as calls are
- * accepted like those of any chip. It shows only in the registers: Page is 00h and ErrorFlag 00h, where a start leaves 80h and 40h.
+ * Start. A chip is whatever memory you pass. mfrc531_start makes any memory a chip, an MFRC531 or an MF RC530 by the first four bytes of the image,
+ * and refuses an image that begins with neither edition's (22). Zeros are no chip's state: with a static mfrc531_chip a forgotten start shows at
+ * once, as every other call is refused with 7.
  *
  * Page. A start leaves Page at 80h: UsePageSelect is set and PageSelect 0, so only the three low bits of an address count and they reach
  * registers 00h-07h. Address 22h then is FIFOData (02h), not ChannelRedundancy. Write 00h to Page first, and addresses are linear.
@@ -41,17 +41,18 @@
 #include <stdint.h>
 
 /* The version of this header and of the library. MINOR rises by one with each request that lands (docs/landings); 11 is the state with R-2,
- * R-6 and R-11, 12 brought R-4, 13 R-3. With a new MINOR compile firmware again, as the chip's layout may have changed. PATCH rises with any other
- * change. MAJOR is 0 until the layout is final; from then on it rises when a name, the layout or an answer changes, so that firmware has to be
- * looked at. */
+ * R-6 and R-11, 12 brought R-4, 13 R-3, 14 R-10. With a new MINOR compile firmware again, as the chip's layout may have changed. PATCH rises with
+ * any other change. MAJOR is 0 until the layout is final; from then on it rises when a name, the layout or an answer changes, so that firmware has
+ * to be looked at. */
 #define MFRC531_VERSION_MAJOR 0
-#define MFRC531_VERSION_MINOR 13
+#define MFRC531_VERSION_MINOR 14
 #define MFRC531_VERSION_PATCH 0
-#define MFRC531_VERSION_STRING "0.13.0"
+#define MFRC531_VERSION_STRING "0.14.0"
 
 /* Sizes in bytes, and clocks of 13.56 MHz. */
 #define MFRC531_FIFO_SIZE 64
 #define MFRC531_EEPROM_SIZE 512
+#define MFRC531_PRODUCT_TYPE_SIZE 4 /* the first bytes of an image, by which it is an edition's */
 #define MFRC531_PROFILE_ADDRESS 0x10 /* of the start-up profile in EEPROM, 010h-02Fh */
 #define MFRC531_PROFILE_SIZE 32
 #define MFRC531_TAKE_BUFFER_SIZE 66 /* the FIFO and a checksum of two bytes */
@@ -70,7 +71,7 @@ extern "C" {
 typedef uint32_t mfrc531_answer;
 
 /* Each number goes by one name; mfrc531_refusal_text has it in words. Which call gives which, and in which order they are judged, stands with
- * the call below. 7 goes before all others. */
+ * the call below. Of a call on a chip 7 goes before all others. */
 enum mfrc531_refusal {
     MFRC531_NOT_REFUSED = 0,
     MFRC531_ADDRESS_ABOVE_63 = 1,
@@ -85,7 +86,9 @@ enum mfrc531_refusal {
     MFRC531_FIXED_BIT_DIFFERS = 10,
     MFRC531_PRESCALER_ABOVE_21 = 11,
     MFRC531_RELOAD_0_WITH_START = 12,
-    MFRC531_WATER_LEVEL_ABOVE_31 = 13
+    MFRC531_WATER_LEVEL_ABOVE_31 = 13,
+    /* No call is refused with 14 to 21. */
+    MFRC531_IMAGE_OF_NO_EDITION = 22
 };
 
 /* The refusal of an answer; the byte or count; the last bits. */
@@ -111,6 +114,7 @@ static inline const char *mfrc531_refusal_text(unsigned number)
     case MFRC531_PRESCALER_ABOVE_21: return "TPreScaler is above 21";
     case MFRC531_RELOAD_0_WITH_START: return "TStartTxBegin or TStartTxEnd is set, but TimerReload is 0";
     case MFRC531_WATER_LEVEL_ABOVE_31: return "WaterLevel is above 31";
+    case MFRC531_IMAGE_OF_NO_EDITION: return "the image's first four bytes are no edition's";
     default: return "unknown: the library has no refusal of this number";
     }
 }
@@ -310,15 +314,35 @@ enum mfrc531_irq_pin_config_bits { /* stored, without effect: the bench has no p
     MFRC531_IRQ_PUSH_PULL = 0x01
 };
 
-/* ---- The shipped EEPROM -------------------------------------------------------------------------------------------------------------- */
+/* ---- Editions, and the shipped EEPROM ------------------------------------------------------------------------------------------------ */
 
-/* MFRC531_EEPROM_SIZE bytes for mfrc531_start: the start-up profile that the chip is shipped with at 010h-02Fh, and zeros elsewhere. The profile
- * alone begins at MFRC531_PROFILE_ADDRESS. */
+/* A chip is of the edition with whose product type its image begins, bytes 000h-003h: 30h CCh FFh 0Fh for the MFRC531, 30h 88h FEh 03h for the
+ * MF RC530. No other byte of the image counts for it, and no call but a start changes it. The editions differ in the bits that their data sheets fix,
+ * so in the check of a profile, and in nothing else: registers, commands and time are the same. */
+enum mfrc531_edition {
+    MFRC531_EDITION_MFRC531 = 0,
+    MFRC531_EDITION_RC530 = 1
+};
+
+/* MFRC531_EEPROM_SIZE bytes for mfrc531_start: the MFRC531's product type at 000h-003h, the start-up profile that it is shipped with at 010h-02Fh,
+ * and zeros elsewhere. The profile alone begins at MFRC531_PROFILE_ADDRESS. */
 static inline const uint8_t *mfrc531_shipped_image(void)
 {
     static const uint8_t image[MFRC531_EEPROM_SIZE] = {
-        0x00, 0x00, 0x00, 0x00, 0x00, 0x00, 0x00, 0x00, 0x00, 0x00, 0x00, 0x00, 0x00, 0x00, 0x00, 0x00, /* 000h */
+        0x30, 0xCC, 0xFF, 0x0F, 0x00, 0x00, 0x00, 0x00, 0x00, 0x00, 0x00, 0x00, 0x00, 0x00, 0x00, 0x00, /* 000h */
         0x00, 0x58, 0x3F, 0x3F, 0x19, 0x13, 0x3F, 0x3B, 0x00, 0x73, 0x08, 0xAD, 0xFF, 0x1E, 0x41, 0x00, /* 010h */
+        0x00, 0x06, 0x03, 0x63, 0x63, 0x00, 0x00, 0x00, 0x00, 0x08, 0x07, 0x06, 0x0A, 0x02, 0x00, 0x00, /* 020h */
+    };
+    return image;
+}
+
+/* The same of the MF RC530, whose profile has another byte at 16h. The check refuses this profile, 10 at 17h bit 0: the data sheet fixes all bits of
+ * 17h at 0, and ships 3Bh there. With 00h at 17h it passes. */
+static inline const uint8_t *mfrc531_shipped_image_rc530(void)
+{
+    static const uint8_t image[MFRC531_EEPROM_SIZE] = {
+        0x30, 0x88, 0xFE, 0x03, 0x00, 0x00, 0x00, 0x00, 0x00, 0x00, 0x00, 0x00, 0x00, 0x00, 0x00, 0x00, /* 000h */
+        0x00, 0x58, 0x3F, 0x3F, 0x19, 0x13, 0x00, 0x3B, 0x00, 0x73, 0x08, 0xAD, 0xFF, 0x1E, 0x41, 0x00, /* 010h */
         0x00, 0x06, 0x03, 0x63, 0x63, 0x00, 0x00, 0x00, 0x00, 0x08, 0x07, 0x06, 0x0A, 0x02, 0x00, 0x00, /* 020h */
     };
     return image;
@@ -363,7 +387,7 @@ typedef struct {
     uint8_t timer_running;         /* TRunning, 1 or 0 */
     uint8_t timer_prescaler;       /* TPreScaler as the timer's start read it; 0 while the timer stands */
     uint8_t latched;               /* while WriteE2 programs: how many bytes of the latch, which go right before next_address */
-    uint8_t reserved_11;
+    uint8_t edition;               /* one of enum mfrc531_edition: that of the product type in eeprom */
     uint8_t stage;                 /* one of enum mfrc531_stage */
     uint8_t fifo_read, fifo_write; /* the FIFO's positions: slot = position % 64, held = write - read, wrapped to eight bits */
     uint8_t timer_value;           /* TimerValue */
@@ -399,7 +423,7 @@ MFRC531_AT(error_flag, 27);
 MFRC531_AT(timer_running, 28);
 MFRC531_AT(timer_prescaler, 29);
 MFRC531_AT(latched, 30);
-MFRC531_AT(reserved_11, 31);
+MFRC531_AT(edition, 31);
 MFRC531_AT(stage, 32);
 MFRC531_AT(fifo_read, 33);
 MFRC531_AT(fifo_write, 34);
@@ -415,8 +439,9 @@ MFRC531_AT(eeprom, 162);
 
 /* ---- The six events ------------------------------------------------------------------------------------------------------------------ */
 
-/* A start from an EEPROM image. Judges no old chip: any memory becomes a chip, Idle, with Page 80h and ErrorFlag 40h.
- * Refuses: 2 the image is not 512 bytes. */
+/* A start from an EEPROM image, whose first four bytes say the chip's edition. Judges no old chip: any memory becomes a chip, Idle, with Page 80h
+ * and ErrorFlag 40h.
+ * Refuses: 2 the image is not 512 bytes; 22 its first four bytes are no edition's, as those of an image of zeros. */
 mfrc531_answer mfrc531_start(mfrc531_chip *chip, const uint8_t *image, size_t length);
 
 /* A host read. Value: the register's byte. A read of FIFOData (02h) removes it from the FIFO; no other read changes anything.
@@ -445,14 +470,16 @@ mfrc531_answer mfrc531_deliver(mfrc531_chip *chip, const uint8_t *bytes, size_t 
 
 /* ---- Profiles ------------------------------------------------------------------------------------------------------------------------ */
 
-/* The check of a start-up profile, 32 bytes for 10h-2Fh. Refusals 10 to 13 name the register in bits 15-8, and 10 the bit in bits 23-16.
- * Refuses: 9 the profile is not 32 bytes. Else it names the lowest register that has a fault: 10 the data sheet fixes one of its bits at another
- * value; 11 TPreScaler (2Ah) is above 21; 12 TStartTxBegin or TStartTxEnd is set, but TimerReload (2Ch) is 0; 13 WaterLevel (29h) is above 31, so
- * that LoAlert or HiAlert is on at every fill of the FIFO. Only the check judges these values: a start, a host write and LoadConfig take them
- * all. */
-mfrc531_answer mfrc531_check_profile(const uint8_t *profile, size_t length);
+/* The check of a start-up profile, 32 bytes for 10h-2Fh, as that of an edition (enum mfrc531_edition). Refusals 10 to 13 name the register in bits
+ * 15-8, and 10 the bit in bits 23-16.
+ * Refuses: 9 the profile is not 32 bytes; 7 the number is no edition's. Else it names the lowest register that has a fault: 10 the edition's data
+ * sheet fixes one of its bits at another value; 11 TPreScaler (2Ah) is above 21; 12 TStartTxBegin or TStartTxEnd is set, but TimerReload (2Ch) is 0;
+ * 13 WaterLevel (29h) is above 31, so that LoAlert or HiAlert is on at every fill of the FIFO. Only the check judges these values: a start, a host
+ * write and LoadConfig take them all. */
+mfrc531_answer mfrc531_check_profile(uint8_t edition, const uint8_t *profile, size_t length);
 
-/* The choice for a safe start, from two images of 512 bytes. Value: 1 the user's profile (bytes 010h-02Fh) passes, 2 only the rescue's does.
+/* The choice for a safe start, from two images of 512 bytes. Each profile (bytes 010h-02Fh) is checked as that of its own image's edition, and the
+ * two may be of different ones; of an image that is no edition's it fails. Value: 1 the user's passes, 2 only the rescue's does.
  * Refuses: 2 an image is not 512 bytes; 8 both profiles fail. */
 mfrc531_answer mfrc531_choose(const uint8_t *user, size_t user_length, const uint8_t *rescue, size_t rescue_length);
 

@@ -22,7 +22,7 @@ static const struct { const char *name; long value; } names[] = {
 #include "names.inc"
 };
 
-static mfrc531_chip chip; /* zeros */
+static mfrc531_chip chip; /* zeros, which are no chip's state */
 
 static uint8_t get(uint8_t address)
 {
@@ -46,27 +46,83 @@ static void version(void)
 static void refusal_texts(void)
 {
     const char *unknown = mfrc531_refusal_text(MFRC531_WATER_LEVEL_ABOVE_31 + 1);
-    for (unsigned i = MFRC531_NOT_REFUSED; i <= MFRC531_WATER_LEVEL_ABOVE_31; i++) {
+    for (unsigned i = MFRC531_NOT_REFUSED; i <= 256; i++) {
+        if (i > MFRC531_WATER_LEVEL_ABOVE_31 && i != MFRC531_IMAGE_OF_NO_EDITION) {
+            CHECK(strcmp(mfrc531_refusal_text(i), unknown) == 0);
+            continue;
+        }
         CHECK(strlen(mfrc531_refusal_text(i)) > 0 && strchr(mfrc531_refusal_text(i), '\n') == NULL);
         CHECK(strcmp(mfrc531_refusal_text(i), unknown) != 0);
         for (unsigned k = 0; k < i; k++)
             CHECK(strcmp(mfrc531_refusal_text(i), mfrc531_refusal_text(k)) != 0);
     }
-    CHECK(strlen(unknown) > 0 && strcmp(mfrc531_refusal_text(0xFFFFFFFFu), unknown) == 0 && strcmp(mfrc531_refusal_text(256), unknown) == 0);
+    CHECK(strlen(unknown) > 0 && strcmp(mfrc531_refusal_text(0xFFFFFFFFu), unknown) == 0);
 }
 
-/* A chip of zeros is accepted without a start, and told apart by Page and ErrorFlag. Memory that is no chip's is refused, and a start takes it. */
-static void any_memory(void)
+/* Each call but a start refuses the chip, and changes nothing. */
+static void malformed(void)
 {
-    for (uint8_t address = 0; address < 64; address++)
-        get(address);
-    CHECK(get(MFRC531_REG_PAGE) == 0x00 && get(MFRC531_REG_ERROR_FLAG) == 0x00);
-    memset(&chip, 0xFF, sizeof chip);
+    static const uint8_t byte[] = {0x12}, parity[] = {1};
+    uint8_t buffer[MFRC531_TAKE_BUFFER_SIZE] = {0xA5}, buffer_before[sizeof buffer];
+    memcpy(buffer_before, buffer, sizeof buffer);
     mfrc531_chip before = chip;
     CHECK(mfrc531_read(&chip, MFRC531_REG_PAGE) == MFRC531_CHIP_MALFORMED);
-    CHECK(memcmp(&chip, &before, sizeof chip) == 0);
+    CHECK(mfrc531_write(&chip, MFRC531_REG_PAGE, 0x00) == MFRC531_CHIP_MALFORMED);
+    CHECK(mfrc531_advance(&chip, 1) == MFRC531_CHIP_MALFORMED);
+    CHECK(mfrc531_take(&chip, buffer, sizeof buffer) == MFRC531_CHIP_MALFORMED);
+    CHECK(mfrc531_deliver(&chip, byte, sizeof byte, parity, sizeof parity, 0) == MFRC531_CHIP_MALFORMED);
+    CHECK(memcmp(&chip, &before, sizeof chip) == 0 && memcmp(buffer, buffer_before, sizeof buffer) == 0);
+}
+
+/* Memory that is no chip's, also of zeros, is refused without a start, and a start takes it. */
+static void any_memory(void)
+{
+    malformed();
     start();
-    CHECK(chip.stage == MFRC531_STAGE_IDLE);
+    CHECK(chip.stage == MFRC531_STAGE_IDLE && get(MFRC531_REG_PAGE) == 0x80);
+    memset(&chip, 0xFF, sizeof chip);
+    malformed();
+    start();
+    CHECK(chip.stage == MFRC531_STAGE_IDLE && get(MFRC531_REG_PAGE) == 0x80);
+}
+
+/* A chip is of the edition with whose product type its image begins. An image of neither is refused, after its length, and leaves the chip as it was.
+ * A chip whose EEPROM begins with another product type than its edition's is malformed. */
+static void editions(void)
+{
+    static const uint8_t neither[][MFRC531_PRODUCT_TYPE_SIZE] = {{0x30, 0x88, 0xFF, 0x0F}, {0x30, 0xCC, 0xFE, 0x03}, {0x30, 0xCC, 0xFF, 0x0E}};
+    const uint8_t *const shipped[] = {mfrc531_shipped_image(), mfrc531_shipped_image_rc530()};
+    uint8_t image[MFRC531_EEPROM_SIZE];
+    for (uint8_t edition = MFRC531_EDITION_MFRC531; edition <= MFRC531_EDITION_RC530; edition++) {
+        memcpy(image, shipped[edition], sizeof image);
+        image[MFRC531_PRODUCT_TYPE_SIZE] = 0x5A; /* the version, which decides nothing */
+        memset(&chip, 0xFF, sizeof chip);
+        CHECK(mfrc531_start(&chip, image, sizeof image) == MFRC531_NOT_REFUSED);
+        CHECK(chip.edition == edition && memcmp(chip.eeprom, image, sizeof image) == 0);
+        mfrc531_chip before = chip;
+        for (size_t i = 0; i < sizeof neither / sizeof *neither; i++) {
+            memcpy(image, neither[i], sizeof neither[i]);
+            CHECK(mfrc531_start(&chip, image, sizeof image - 1) == MFRC531_IMAGE_NOT_512_BYTES);
+            CHECK(mfrc531_start(&chip, image, sizeof image) == MFRC531_IMAGE_OF_NO_EDITION);
+            CHECK(memcmp(&chip, &before, sizeof chip) == 0);
+        }
+        memset(image, 0, sizeof image);
+        CHECK(mfrc531_start(&chip, image, sizeof image - 1) == MFRC531_IMAGE_NOT_512_BYTES);
+        CHECK(mfrc531_start(&chip, image, sizeof image) == MFRC531_IMAGE_OF_NO_EDITION && memcmp(&chip, &before, sizeof chip) == 0);
+        for (unsigned number = 0; number < 256; number++) {
+            chip.edition = number;
+            if (number != edition)
+                malformed();
+        }
+        chip = before;
+        for (size_t i = 0; i < MFRC531_PRODUCT_TYPE_SIZE; i++) {
+            chip.eeprom[i] ^= 0x01;
+            malformed();
+            chip = before;
+        }
+        chip.eeprom[MFRC531_PRODUCT_TYPE_SIZE] ^= 0xFF;
+        CHECK(get(MFRC531_REG_FIFO_LENGTH) == 0 && chip.edition == edition);
+    }
 }
 
 /* After a start address 22h is FIFOData, until Page is written. */
@@ -172,8 +228,8 @@ static void refusals(void)
     CHECK(memcmp(&chip, &before, sizeof chip) == 0);
 
     const uint8_t *shipped = mfrc531_shipped_image();
-    CHECK(mfrc531_check_profile(profile, MFRC531_PROFILE_SIZE) == MFRC531_NOT_REFUSED);
-    CHECK(mfrc531_check_profile(profile, MFRC531_PROFILE_SIZE - 1) == MFRC531_PROFILE_NOT_32_BYTES);
+    CHECK(mfrc531_check_profile(MFRC531_EDITION_MFRC531, profile, MFRC531_PROFILE_SIZE) == MFRC531_NOT_REFUSED);
+    CHECK(mfrc531_check_profile(MFRC531_EDITION_MFRC531, profile, MFRC531_PROFILE_SIZE - 1) == MFRC531_PROFILE_NOT_32_BYTES);
     CHECK(mfrc531_value_of(mfrc531_choose(image, sizeof image, shipped, MFRC531_EEPROM_SIZE)) == 1);
     static const struct { uint8_t address, byte, refusal, bit; } faults[] = {
         {MFRC531_REG_CHANNEL_REDUNDANCY, 0x40, MFRC531_FIXED_BIT_DIFFERS, 6},
@@ -184,7 +240,7 @@ static void refusals(void)
     for (size_t i = 0; i < sizeof faults / sizeof *faults; i++) {
         memcpy(image, shipped, sizeof image);
         image[faults[i].address] = faults[i].byte;
-        mfrc531_answer answer = mfrc531_check_profile(profile, MFRC531_PROFILE_SIZE);
+        mfrc531_answer answer = mfrc531_check_profile(MFRC531_EDITION_MFRC531, profile, MFRC531_PROFILE_SIZE);
         CHECK(mfrc531_refusal_of(answer) == faults[i].refusal && mfrc531_value_of(answer) == faults[i].address);
         CHECK(mfrc531_last_bits_of(answer) == faults[i].bit);
         CHECK(mfrc531_value_of(mfrc531_choose(image, sizeof image, shipped, MFRC531_EEPROM_SIZE)) == 2);
@@ -192,22 +248,74 @@ static void refusals(void)
     }
 }
 
+/* The check goes by the edition's fixed bits, and the choice by that of each image. The MF RC530's shipped profile differs at 17h. */
+static void profiles(void)
+{
+    const uint8_t first = MFRC531_EDITION_MFRC531, second = MFRC531_EDITION_RC530, *shipped = mfrc531_shipped_image();
+    uint8_t image[MFRC531_EEPROM_SIZE], *profile = image + MFRC531_PROFILE_ADDRESS;
+    CHECK(mfrc531_check_profile(second, shipped + MFRC531_PROFILE_ADDRESS, 32) == (MFRC531_FIXED_BIT_DIFFERS | 0x16u << 8));
+    memcpy(image, mfrc531_shipped_image_rc530(), sizeof image);
+    CHECK(mfrc531_check_profile(first, profile, 32) == MFRC531_NOT_REFUSED);
+    CHECK(mfrc531_check_profile(second, profile, 32) == (MFRC531_FIXED_BIT_DIFFERS | 0x17u << 8));
+    CHECK(mfrc531_value_of(mfrc531_choose(image, sizeof image, shipped, sizeof image)) == 2);
+    CHECK(mfrc531_choose(image, sizeof image, image, sizeof image) == MFRC531_BOTH_PROFILES_FAIL);
+    image[0x17] = 0x00;
+    CHECK(mfrc531_check_profile(second, profile, 32) == MFRC531_NOT_REFUSED);
+    CHECK(mfrc531_value_of(mfrc531_choose(image, sizeof image, shipped, sizeof image)) == 1);
+    CHECK(mfrc531_value_of(mfrc531_choose(shipped, sizeof image, image, sizeof image)) == 1);
+
+    /* Bits that the MF RC530 fixes, most of these at 1; then what is alike. */
+    static const struct { uint8_t address, byte; mfrc531_answer of_first, of_second; } changes[] = {
+        {0x11, 0x48, 0, 0x04110A}, {0x11, 0xC8, 0x07110A, 0x04110A}, {0x13, 0x3E, 0, 0x00130A}, {0x14, 0x18, 0, 0x00140A},
+        {0x19, 0x63, 0, 0x04190A}, {0x1A, 0x00, 0, 0x031A0A}, {0x1D, 0x3E, 0, 0x051D0A},
+        {0x25, 0x80, 0x07250A, 0x07250A}, {0x29, 32, 0x00290D, 0x00290D}, {0x2A, 22, 0x002A0B, 0x002A0B}, {0x2C, 0, 0x002C0C, 0x002C0C},
+    };
+    for (size_t i = 0; i < sizeof changes / sizeof *changes; i++) {
+        uint8_t kept = image[changes[i].address];
+        image[changes[i].address] = changes[i].byte;
+        CHECK(mfrc531_check_profile(first, profile, 32) == changes[i].of_first);
+        CHECK(mfrc531_check_profile(second, profile, 32) == changes[i].of_second);
+        image[changes[i].address] = kept;
+    }
+
+    /* 9 goes first, and 7 follows where the number is no edition's. */
+    for (unsigned number = 0; number < 256; number++) {
+        CHECK(mfrc531_check_profile(number, profile, 31) == MFRC531_PROFILE_NOT_32_BYTES);
+        CHECK(mfrc531_check_profile(number, image, 512) == MFRC531_PROFILE_NOT_32_BYTES);
+        CHECK(mfrc531_check_profile(number, profile, 32) == (number < 2 ? MFRC531_NOT_REFUSED : MFRC531_CHIP_MALFORMED));
+        CHECK(number < 2 || mfrc531_check_profile(number, image, 32) == MFRC531_CHIP_MALFORMED);
+    }
+
+    /* An image of neither edition fails in the choice, though its profile passes by both tables. The lengths go first. */
+    image[3] = 0x0F;
+    CHECK(mfrc531_value_of(mfrc531_choose(image, sizeof image, shipped, sizeof image)) == 2);
+    CHECK(mfrc531_value_of(mfrc531_choose(shipped, sizeof image, image, sizeof image)) == 1);
+    CHECK(mfrc531_choose(image, sizeof image, image, sizeof image) == MFRC531_BOTH_PROFILES_FAIL);
+    CHECK(mfrc531_choose(image, sizeof image, shipped, sizeof image - 1) == MFRC531_IMAGE_NOT_512_BYTES);
+    CHECK(mfrc531_choose(shipped, sizeof image - 1, image, sizeof image) == MFRC531_IMAGE_NOT_512_BYTES);
+}
+
 int main(void)
 {
     version();
     refusal_texts();
     any_memory();
+    editions();
     pages();
     time_passes();
     frames();
     alerts();
     unknown_codes();
     refusals();
+    profiles();
     for (size_t i = 0; i < sizeof names / sizeof *names; i++)
         printf("%s %ld\n", names[i].name, names[i].value);
     printf("image");
     for (int i = 0; i < MFRC531_EEPROM_SIZE; i++)
         printf(" %02X", mfrc531_shipped_image()[i]);
+    printf("\nimage_rc530");
+    for (int i = 0; i < MFRC531_EEPROM_SIZE; i++)
+        printf(" %02X", mfrc531_shipped_image_rc530()[i]);
     printf("\n");
     return 0;
 }

@@ -190,7 +190,7 @@ static const struct { const char *kind; void (*prepare)(void), (*round)(void); }
 
 int main(int count, char **words)
 {
-    uint8_t image[512] = {0};
+    uint8_t image[512] = {0x30, 0xCC, 0xFF, 0x0F}; /* an MFRC531 */
     image[0x23] = image[0x24] = 0x63; /* the preset of ISO/IEC 14443-3, and a WaterLevel of 8 */
     image[0x29] = 0x08;
     done(mfrc531_start(&chip, image, sizeof image));

@@ -466,13 +466,15 @@ static void memory(void)
     CHECK(driver_transceive(&exchange) == DRIVER_ARGUMENT);
 }
 
-/* Two readers side by side. */
+/* Two readers side by side, one of each edition, which a reset does not change. */
 static void two_chips(void)
 {
     static struct hal other;
     begin();
     hal_prepare(&other);
-    hal_start(&other, mfrc531_shipped_image(), MFRC531_EEPROM_SIZE);
+    hal_start(&other, mfrc531_shipped_image_rc530(), MFRC531_EEPROM_SIZE);
+    hal_reset(&other);
+    CHECK(hal.chip.edition == MFRC531_EDITION_MFRC531 && other.chip.edition == MFRC531_EDITION_RC530);
     CHECK(driver_start() == DRIVER_OK);
     answers(two_bytes, 2);
     CHECK(exchanged(5000) == DRIVER_TIMEOUT); /* no card there */
@@ -493,27 +495,30 @@ static void refusals_by_hook(void)
     CHECK(met.count == 2 && met.refusal == MFRC531_ADDRESS_ABOVE_63 && met.argument == 255 && strcmp(met.call, "WriteIO") == 0);
     hal_start(&hal, mfrc531_shipped_image(), 511);
     CHECK(met.count == 3 && met.refusal == MFRC531_IMAGE_NOT_512_BYTES && strcmp(met.call, "start") == 0);
+    static const uint8_t zeros[MFRC531_EEPROM_SIZE];
+    hal_start(&hal, zeros, sizeof zeros);
+    CHECK(met.count == 4 && met.refusal == MFRC531_IMAGE_OF_NO_EDITION && met.argument == 512 && strcmp(met.call, "start") == 0);
     answers(two_bytes, 2);
     script.answer.count = 65;
     CHECK(exchanged(5000) == DRIVER_TIMEOUT);
-    CHECK(met.count == 4 && met.refusal == MFRC531_FRAME_MALFORMED && met.argument == 65 && strcmp(met.call, "deliver") == 0);
+    CHECK(met.count == 5 && met.refusal == MFRC531_FRAME_MALFORMED && met.argument == 65 && strcmp(met.call, "deliver") == 0);
     script.answer.count = 2;
     script.answer.last_bits = 8;
     CHECK(exchanged(5000) == DRIVER_TIMEOUT);
-    CHECK(met.count == 5 && met.refusal == MFRC531_FRAME_MALFORMED && met.argument == 2);
+    CHECK(met.count == 6 && met.refusal == MFRC531_FRAME_MALFORMED && met.argument == 2);
     answers(mfrc531_shipped_image(), 63);
     hal_append_crc_a(&script.answer); /* no room for it */
     CHECK(exchanged(5000) == DRIVER_TIMEOUT);
-    CHECK(met.count == 6 && met.refusal == MFRC531_FRAME_MALFORMED && met.argument == 65);
+    CHECK(met.count == 7 && met.refusal == MFRC531_FRAME_MALFORMED && met.argument == 65);
     hal.chip.stage = 0x3E; /* no chip's state */
     hal_irq_pin();
-    CHECK(met.count > 6 && met.refusal == MFRC531_CHIP_MALFORMED);
+    CHECK(met.count > 7 && met.refusal == MFRC531_CHIP_MALFORMED);
     unsigned before = met.count;
     CHECK(exchanged(5000) == DRIVER_STUCK);
     CHECK(met.count > before && met.refusal == MFRC531_CHIP_MALFORMED);
 }
 
-/* These three end by abort, with a text: tests/hal looks at both. */
+/* These four end by abort, with a text: tests/hal looks at both. */
 static void abort_by_address(void)
 {
     begin();
@@ -529,6 +534,12 @@ static void abort_by_answer(void)
 }
 
 static void abort_without_chip(void) { ReadIO(MFRC531_REG_COMMAND); }
+
+static void abort_without_start(void)
+{
+    hal_prepare(&hal);
+    ReadIO(MFRC531_REG_COMMAND);
+}
 
 static const struct {
     const char *name;
@@ -559,6 +570,7 @@ static const struct {
     {"abort_by_address", abort_by_address},
     {"abort_by_answer", abort_by_answer},
     {"abort_without_chip", abort_without_chip},
+    {"abort_without_start", abort_without_start},
 };
 
 int main(int argc, char **argv)

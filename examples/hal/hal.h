@@ -113,10 +113,11 @@ struct hal {
     struct hal_answer answer;
 };
 
-/* Sets everything to 0 but access_clocks, and makes this the one in use. */
+/* Sets everything to 0 but access_clocks, and makes this the one in use. There is no chip yet: before hal_start every access is refused with 7. */
 void hal_prepare(struct hal *hal);
 
-/* Power on: the chip starts from an EEPROM image of 512 bytes. An answer under way is missed. The clocks go on. */
+/* Power on: the chip starts from an EEPROM image of 512 bytes, whose first four say whether it is an MFRC531 or an MF RC530. An answer under way is
+ * missed. The clocks go on. */
 void hal_start(struct hal *hal, const uint8_t *image, size_t length);
 
 /* A pulse on RSTPD: the chip starts from its own EEPROM. */

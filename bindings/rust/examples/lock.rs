@@ -1,6 +1,6 @@
 //! A first firmware in Rust, step by step what examples/lock.c does: start, interrupts, key, checksum, a Transceive, and refused calls.
 use mfrc531::bits::interrupt_en;
-use mfrc531::{check_profile, shipped_image, Chip, Command, Refusal, Register, SHIPPED_PROFILE};
+use mfrc531::{check_profile, shipped_image, Chip, Command, Edition, Refusal, Register, SHIPPED_PROFILE};
 
 fn send_bytes(chip: &mut Chip, bytes: &[u8]) -> Result<(), Refusal> {
     bytes.iter().try_for_each(|&byte| chip.write(Register::FifoData, byte))
@@ -44,7 +44,7 @@ fn transceive(chip: &mut Chip) -> Result<(), Refusal> {
 }
 
 fn main() -> Result<(), Box<dyn std::error::Error>> {
-    check_profile(&SHIPPED_PROFILE)?;
+    check_profile(Edition::Mfrc531, &SHIPPED_PROFILE)?;
     let mut chip = Chip::start(&shipped_image())?;
     chip.write(Register::Page, 0x00)?; // linear addresses
     show(&mut chip, "started from the shipped image")?;

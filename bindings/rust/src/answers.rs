@@ -21,6 +21,8 @@ pub enum Refusal {
     ChipMalformed,
     /// 8: neither profile passes.
     BothProfilesFail,
+    /// 22: the image's first four bytes are no edition's.
+    ImageOfNoEdition,
     /// A number that this crate has no name for: the library is newer than the crate. 3 is reserved, and no call is refused with it.
     Other(u8),
 }
@@ -36,6 +38,7 @@ impl Refusal {
             Refusal::BufferUnder66Bytes => 6,
             Refusal::ChipMalformed => 7,
             Refusal::BothProfilesFail => 8,
+            Refusal::ImageOfNoEdition => 22,
             Refusal::Other(number) => number,
         }
     }
@@ -49,6 +52,7 @@ impl Refusal {
             6 => Refusal::BufferUnder66Bytes,
             7 => Refusal::ChipMalformed,
             8 => Refusal::BothProfilesFail,
+            22 => Refusal::ImageOfNoEdition,
             other => Refusal::Other(other),
         }
     }
@@ -64,6 +68,7 @@ impl fmt::Display for Refusal {
             Refusal::BufferUnder66Bytes => "the buffer is under 66 bytes",
             Refusal::ChipMalformed => "the memory is no chip's state",
             Refusal::BothProfilesFail => "neither profile passes",
+            Refusal::ImageOfNoEdition => "the image's first four bytes are no edition's",
             Refusal::Other(_) => "a refusal that this crate does not know",
         };
         write!(f, "refused ({}): {why}", self.number())
@@ -113,7 +118,7 @@ mod tests {
         for number in 1..=255 {
             let refusal = Answer(number).done().unwrap_err();
             assert_eq!(u32::from(refusal.number()), number);
-            assert_eq!(refusal == Refusal::Other(refusal.number()), number > 8 || number == 3);
+            assert_eq!(refusal == Refusal::Other(refusal.number()), !matches!(number, 1 | 2 | 4..=8 | 22));
         }
         assert_eq!(Refusal::of(200).to_string(), "refused (200): a refusal that this crate does not know");
         assert_eq!(Refusal::of(2).to_string(), "refused (2): the image is not 512 bytes");

@@ -1,4 +1,4 @@
-//! The reader bench: an MFRC531 card-reader chip in software.
+//! The reader bench: an MFRC531 or MF RC530 card-reader chip in software.
 //!
 //! A [`Chip`] is one chip's whole state. Its methods are the chip's six events; each answers a value or a [`Refusal`], and a refused call
 //! changes neither the chip nor a buffer. The library behind them is proved: for every chip and every argument a call ends, and what it
@@ -37,8 +37,10 @@ pub mod bits;
 pub mod memory;
 
 pub use answers::{Frame, Refusal};
-pub use names::{Command, ModemState, Register, UnknownCommand, UnknownModemState, UnknownRegister};
-pub use profiles::{check_profile, choose, shipped_image, Choice, ProfileRefusal, SHIPPED_PROFILE};
+pub use names::{Command, Edition, ModemState, Register, UnknownCommand, UnknownEdition, UnknownModemState, UnknownRegister};
+pub use profiles::{
+    check_profile, choose, shipped_image, shipped_image_of, Choice, ProfileRefusal, SHIPPED_PROFILE, SHIPPED_PROFILE_RC530,
+};
 
 use answers::Answer;
 use memory::ChipMemory;
@@ -59,7 +61,7 @@ extern "C" {
     ) -> u32;
 }
 
-/// An MFRC531.
+/// An MFRC531, or an MF RC530.
 ///
 /// Two chips are equal where all 676 bytes of their states are; chips that act alike may differ in where their FIFO begins.
 ///
@@ -70,7 +72,7 @@ extern "C" {
 /// assert_eq!(chip, other);
 /// other.write(Register::Page, 0x00)?;
 /// assert_ne!(chip, other);
-/// assert!(format!("{other:?}").starts_with("Chip { Page: 00, Command: Idle, FIFO: [], "));
+/// assert!(format!("{other:?}").starts_with("Chip { Edition: MFRC531, Page: 00, Command: Idle, FIFO: [], "));
 /// # Ok::<(), Refusal>(())
 /// ```
 #[derive(Clone, PartialEq, Eq)]
@@ -79,11 +81,13 @@ pub struct Chip {
 }
 
 impl Chip {
-    /// A chip started from an EEPROM image of 512 bytes; another length is refused with [`Refusal::ImageNot512Bytes`].
+    /// A chip started from an EEPROM image of 512 bytes, of the [`Edition`] that its first four bytes say. Another length is refused with
+    /// [`Refusal::ImageNot512Bytes`], and then four bytes of no edition with [`Refusal::ImageOfNoEdition`].
     ///
     /// ```
     /// use mfrc531::{Chip, Refusal};
     /// assert_eq!(Chip::start(&[0; 511]).err(), Some(Refusal::ImageNot512Bytes));
+    /// assert_eq!(Chip::start(&[0; 512]).err(), Some(Refusal::ImageOfNoEdition));
     /// ```
     pub fn start(image: &[u8]) -> Result<Chip, Refusal> {
         let mut chip = Chip { memory: ChipMemory::zeroed() };
@@ -170,6 +174,12 @@ impl Chip {
             .done()
     }
 
+    /// The edition that the chip was started as; every start gives it one. None where the number in [`ChipMemory::edition`] is no edition's, as
+    /// [`Chip::from_memory`] takes any.
+    pub fn edition(&self) -> Option<Edition> {
+        Edition::try_from(self.memory.edition).ok()
+    }
+
     /// The chip's state as it lies in memory.
     pub fn memory(&self) -> &ChipMemory {
         &self.memory
@@ -178,5 +188,64 @@ impl Chip {
     /// A chip of any state. Where it is no chip's state, every call but a start is refused with [`Refusal::ChipMalformed`].
     pub fn from_memory(memory: ChipMemory) -> Chip {
         Chip { memory }
+    }
+}
+
+#[cfg(test)]
+mod tests {
+    use super::*;
+
+    /// Every call but a start is refused, and changes nothing.
+    fn is_malformed(memory: ChipMemory) {
+        let mut chip = Chip::from_memory(memory);
+        let mut buffer = [0xA5; 66];
+        assert_eq!(chip.read(Register::Page), Err(Refusal::ChipMalformed));
+        assert_eq!(chip.write(Register::Page, 0x00), Err(Refusal::ChipMalformed));
+        assert_eq!(chip.advance(1), Err(Refusal::ChipMalformed));
+        assert_eq!(chip.take(&mut buffer), Err(Refusal::ChipMalformed));
+        assert_eq!(chip.deliver(&[0x12], &[1], 0), Err(Refusal::ChipMalformed));
+        assert_eq!((*chip.memory(), buffer), (memory, [0xA5; 66]));
+    }
+
+    #[test]
+    fn a_start_goes_by_the_images_edition() -> Result<(), Refusal> {
+        for &edition in Edition::ALL {
+            let mut image = shipped_image_of(edition);
+            image[0x004] = 0x5A; // the version, and all that follows, decides nothing
+            let mut chip = Chip::start(&image)?;
+            assert_eq!((chip.edition(), chip.memory().eeprom), (Some(edition), image));
+            assert_eq!(chip.read(Register::FifoLength), Ok(0));
+            let before = chip.clone();
+            for product_type in [[0; 4], [0x30, 0x88, 0xFF, 0x0F], [0x30, 0xCC, 0xFE, 0x03]] {
+                image[..4].copy_from_slice(&product_type);
+                assert_eq!(chip.restart(&image), Err(Refusal::ImageOfNoEdition));
+                assert_eq!(chip.restart(&image[..511]), Err(Refusal::ImageNot512Bytes));
+                assert_eq!(chip, before);
+            }
+        }
+        Ok(())
+    }
+
+    #[test]
+    fn the_edition_is_that_of_the_eeprom() -> Result<(), Refusal> {
+        is_malformed(ChipMemory::zeroed());
+        for &edition in Edition::ALL {
+            let memory = *Chip::start(&shipped_image_of(edition))?.memory();
+            for number in (0..=255).filter(|&number| number != u8::from(edition)) {
+                is_malformed(ChipMemory { edition: number, ..memory });
+                assert_eq!(Chip::from_memory(ChipMemory { edition: number, ..memory }).edition(), Edition::try_from(number).ok());
+            }
+            for place in 0..4 {
+                for bit in 0..8 {
+                    let mut changed = memory;
+                    changed.eeprom[place] ^= 1 << bit;
+                    is_malformed(changed);
+                }
+            }
+            let mut changed = memory;
+            changed.eeprom[4] ^= 0xFF;
+            assert_eq!(Chip::from_memory(changed).advance(1), Ok(()));
+        }
+        Ok(())
     }
 }

@@ -59,8 +59,8 @@ pub struct ChipMemory {
     pub timer_prescaler: u8,
     /// While WriteE2 programs: how many bytes of the latch, which go right before `next_address`.
     pub latched: u8,
-    #[allow(missing_docs)]
-    pub reserved_11: u8,
+    /// The edition's number, that of an [`Edition`](crate::Edition): the one whose product type the EEPROM begins with. Only a start changes it.
+    pub edition: u8,
     /// The active command and how far it is: one of [`stage`].
     pub stage: u8,
     /// The FIFO's read position: slot = position mod 64.
@@ -86,7 +86,7 @@ pub struct ChipMemory {
 }
 
 impl ChipMemory {
-    /// All zeros.
+    /// All zeros. This is no chip's state, as the EEPROM begins with no edition's product type: every call but a start is refused.
     pub const fn zeroed() -> ChipMemory {
         ChipMemory {
             timer_phase: 0,
@@ -105,7 +105,7 @@ impl ChipMemory {
             timer_running: 0,
             timer_prescaler: 0,
             latched: 0,
-            reserved_11: 0,
+            edition: 0,
             stage: stage::IDLE,
             fifo_read: 0,
             fifo_write: 0,
@@ -142,6 +142,6 @@ const _: () = {
     assert!(size_of::<ChipMemory>() == 676 && align_of::<ChipMemory>() == 4);
     at!(timer_phase 0, programming_left 4, crc_register 8, next_address 10, reserved_numbers 12);
     at!(page 20, control 21, key_loaded 22, rx_last_bits 23, interrupt_en 24, crc_mode 25, interrupt_rq 26, error_flag 27);
-    at!(timer_running 28, timer_prescaler 29, latched 30, reserved_11 31, stage 32, fifo_read 33, fifo_write 34, timer_value 35);
+    at!(timer_running 28, timer_prescaler 29, latched 30, edition 31, stage 32, fifo_read 33, fifo_write 34, timer_value 35);
     at!(bit_framing 36, reserved_17 37, registers 44, slots 76, latch 140, key 156, eeprom 162);
 };

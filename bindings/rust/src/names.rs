@@ -1,4 +1,4 @@
-//! The data sheet's names for registers, commands and ModemState.
+//! The data sheets' names for registers, commands, ModemState and editions.
 use crate::bits::primary_status;
 use core::fmt;
 
@@ -172,6 +172,44 @@ impl ModemState {
     }
 }
 
+named_bytes! {
+    /// Which chip it is, by the number in [`ChipMemory::edition`](crate::memory::ChipMemory::edition). An image says it by its first four bytes, the
+    /// product type; nothing else in it counts. The editions differ in the bits that their data sheets fix, so in the check of a profile, and in
+    /// nothing else.
+    ///
+    /// ```
+    /// use mfrc531::{shipped_image, shipped_image_of, Chip, Edition};
+    /// assert_eq!(Chip::start(&shipped_image())?.edition(), Some(Edition::Mfrc531));
+    /// assert_eq!(Chip::start(&shipped_image_of(Edition::Rc530))?.edition(), Some(Edition::Rc530));
+    /// assert_eq!(Edition::Rc530.to_string(), "MF RC530");
+    /// # Ok::<(), mfrc531::Refusal>(())
+    /// ```
+    Edition, UnknownEdition, "no edition's number";
+    Mfrc531 = 0, "MFRC531";
+    Rc530 = 1, "MF RC530";
+}
+
+impl Edition {
+    /// The four bytes that an image of this edition begins with.
+    pub const fn product_type(self) -> [u8; 4] {
+        match self {
+            Edition::Mfrc531 => [0x30, 0xCC, 0xFF, 0x0F],
+            Edition::Rc530 => [0x30, 0x88, 0xFE, 0x03],
+        }
+    }
+
+    /// The edition whose product type an image begins with; none where it is no edition's. The image's length is not looked at.
+    ///
+    /// ```
+    /// use mfrc531::Edition;
+    /// assert_eq!(Edition::of(&[0x30, 0x88, 0xFE, 0x03, 0x05]), Some(Edition::Rc530));
+    /// assert_eq!(Edition::of(&[0x30, 0x88, 0xFF, 0x0F, 0x05]), None);
+    /// ```
+    pub fn of(image: &[u8]) -> Option<Edition> {
+        Edition::ALL.iter().copied().find(|edition| image.starts_with(&edition.product_type()))
+    }
+}
+
 #[cfg(test)]
 mod tests {
     use super::*;
@@ -191,6 +229,30 @@ mod tests {
         let found = (0..=255).filter_map(|byte| Command::try_from(byte).ok());
         assert!(found.eq(Command::ALL.iter().copied()));
         assert_eq!(Command::ALL.len(), 10);
+    }
+
+    #[test]
+    fn a_byte_is_its_edition_or_none() {
+        let found = (0..=255).filter_map(|byte| Edition::try_from(byte).ok());
+        assert!(found.eq([Edition::Mfrc531, Edition::Rc530]));
+        assert_eq!(Edition::try_from(2).unwrap_err().to_string(), "02h is no edition's number");
+    }
+
+    #[test]
+    fn an_image_is_its_edition_or_none() {
+        for &edition in Edition::ALL {
+            let bytes = edition.product_type();
+            assert_eq!(Edition::of(&bytes), Some(edition));
+            assert_eq!(Edition::of(&bytes[..3]), None);
+            for place in 0..4 {
+                for changed in (0..=255).filter(|&changed| changed != bytes[place]) {
+                    let mut other = bytes;
+                    other[place] = changed;
+                    assert_eq!(Edition::of(&other), None);
+                }
+            }
+        }
+        assert_eq!(Edition::of(&[]), None);
     }
 
     #[test]

@@ -1,9 +1,10 @@
 //! Start-up profiles: the check, and the choice for a safe start.
 use crate::answers::Refusal;
+use crate::names::Edition;
 use core::fmt;
 
 extern "C" {
-    fn mfrc531_check_profile(profile: *const u8, length: usize) -> u32;
+    fn mfrc531_check_profile(edition: u8, profile: *const u8, length: usize) -> u32;
     fn mfrc531_choose(user: *const u8, user_length: usize, rescue: *const u8, rescue_length: usize) -> u32;
 }
 
@@ -13,10 +14,34 @@ pub const SHIPPED_PROFILE: [u8; 32] = [
     0x00, 0x06, 0x03, 0x63, 0x63, 0x00, 0x00, 0x00, 0x00, 0x08, 0x07, 0x06, 0x0A, 0x02, 0x00, 0x00,
 ];
 
-/// An EEPROM image with the shipped profile at 010h-02Fh and zeros elsewhere.
+/// The profile that the MF RC530 is shipped with (data sheet 008, Table 6-5): another byte at 16h. The check refuses it, as the data sheet fixes
+/// all bits of 17h at 0 and ships 3Bh there; with 00h at 17h it passes.
+///
+/// ```
+/// use mfrc531::{check_profile, Edition, SHIPPED_PROFILE_RC530};
+/// let mut profile = SHIPPED_PROFILE_RC530;
+/// assert_eq!(check_profile(Edition::Rc530, &profile).unwrap_err().to_string(), "refuse 10 at 17 bit 0");
+/// profile[0x17 - 0x10] = 0x00;
+/// assert_eq!(check_profile(Edition::Rc530, &profile), Ok(()));
+/// ```
+pub const SHIPPED_PROFILE_RC530: [u8; 32] = [
+    0x00, 0x58, 0x3F, 0x3F, 0x19, 0x13, 0x00, 0x3B, 0x00, 0x73, 0x08, 0xAD, 0xFF, 0x1E, 0x41, 0x00, //
+    0x00, 0x06, 0x03, 0x63, 0x63, 0x00, 0x00, 0x00, 0x00, 0x08, 0x07, 0x06, 0x0A, 0x02, 0x00, 0x00,
+];
+
+/// An EEPROM image of the MFRC531: its product type at 000h-003h, its shipped profile at 010h-02Fh, and zeros elsewhere.
 pub fn shipped_image() -> [u8; 512] {
+    shipped_image_of(Edition::Mfrc531)
+}
+
+/// An EEPROM image of an edition: its product type at 000h-003h, its shipped profile at 010h-02Fh, and zeros elsewhere.
+pub fn shipped_image_of(edition: Edition) -> [u8; 512] {
     let mut image = [0; 512];
-    image[0x10..0x30].copy_from_slice(&SHIPPED_PROFILE);
+    image[..4].copy_from_slice(&edition.product_type());
+    image[0x10..0x30].copy_from_slice(match edition {
+        Edition::Mfrc531 => &SHIPPED_PROFILE,
+        Edition::Rc530 => &SHIPPED_PROFILE_RC530,
+    });
     image
 }
 
@@ -28,7 +53,7 @@ pub fn shipped_image() -> [u8; 512] {
 pub enum ProfileRefusal {
     /// 9: the profile is not 32 bytes.
     Not32Bytes,
-    /// 10: a bit that the data sheet fixes differs.
+    /// 10: a bit that the edition's data sheet fixes differs.
     FixedBit {
         /// the lowest register with such a bit
         register: u8,
@@ -89,21 +114,24 @@ impl fmt::Display for ProfileRefusal {
 
 impl core::error::Error for ProfileRefusal {}
 
-/// Checks a start-up profile, 32 bytes for registers 10h-2Fh.
+/// Checks a start-up profile, 32 bytes for registers 10h-2Fh, as that of an edition.
 ///
 /// ```
-/// let mut profile = mfrc531::SHIPPED_PROFILE;
-/// assert_eq!(mfrc531::check_profile(&profile), Ok(()));
+/// use mfrc531::{check_profile, Edition, ProfileRefusal, SHIPPED_PROFILE};
+/// let mut profile = SHIPPED_PROFILE;
+/// assert_eq!(check_profile(Edition::Mfrc531, &profile), Ok(()));
 /// profile[0x2A - 0x10] = 24;
-/// assert_eq!(mfrc531::check_profile(&profile).unwrap_err().to_string(), "refuse 11 at 2A");
+/// assert_eq!(check_profile(Edition::Mfrc531, &profile).unwrap_err().to_string(), "refuse 11 at 2A");
 /// profile[0x29 - 0x10] = 32; // a lower register, so it is named instead
-/// let refusal = mfrc531::check_profile(&profile).unwrap_err();
-/// assert_eq!(refusal, mfrc531::ProfileRefusal::WaterLevelAbove31 { register: 0x29 });
+/// let refusal = check_profile(Edition::Mfrc531, &profile).unwrap_err();
+/// assert_eq!(refusal, ProfileRefusal::WaterLevelAbove31 { register: 0x29 });
 /// assert_eq!((refusal.number(), refusal.to_string().as_str()), (13, "refuse 13 at 29"));
+/// // The MF RC530 has other fixed bits: all of 16h are 0.
+/// assert_eq!(check_profile(Edition::Rc530, &profile), Err(ProfileRefusal::FixedBit { register: 0x16, bit: 0 }));
 /// ```
-pub fn check_profile(profile: &[u8]) -> Result<(), ProfileRefusal> {
+pub fn check_profile(edition: Edition, profile: &[u8]) -> Result<(), ProfileRefusal> {
     // Safety: the profile is lent for the call alone, and has the length that is passed with it.
-    verdict(unsafe { mfrc531_check_profile(profile.as_ptr(), profile.len()) })
+    verdict(unsafe { mfrc531_check_profile(edition.into(), profile.as_ptr(), profile.len()) })
 }
 
 /// The check's answer: bits 7-0 the refusal, 0 for none; bits 15-8 the register that it names; bits 23-16 the bit.
@@ -129,15 +157,19 @@ pub enum Choice {
     Rescue,
 }
 
-/// Chooses between the start-up profiles (bytes 010h-02Fh) of two images of 512 bytes.
+/// Chooses between the start-up profiles (bytes 010h-02Fh) of two images of 512 bytes. Each is checked as that of its own image's edition, and the
+/// two may be of different ones; of an image that is no edition's it fails.
 ///
 /// ```
-/// use mfrc531::{choose, shipped_image, Choice, Refusal};
+/// use mfrc531::{choose, shipped_image, shipped_image_of, Choice, Edition, Refusal};
 /// let mut user = shipped_image();
 /// assert_eq!(choose(&user, &shipped_image()), Ok(Choice::User));
 /// user[0x2A] = 24;
 /// assert_eq!(choose(&user, &shipped_image()), Ok(Choice::Rescue));
 /// assert_eq!(choose(&user, &user), Err(Refusal::BothProfilesFail));
+/// let mut rescue = shipped_image_of(Edition::Rc530);
+/// rescue[0x17] = 0x00;
+/// assert_eq!(choose(&user, &rescue), Ok(Choice::Rescue));
 /// ```
 pub fn choose(user: &[u8], rescue: &[u8]) -> Result<Choice, Refusal> {
     // Safety: the images are lent for the call alone, and each has the length that is passed with it.
@@ -166,5 +198,112 @@ mod tests {
         assert_eq!(line(0x00_06_22_0A), "refuse 10 at 22 bit 6");
         assert_eq!(line(0x00_00_2B_0E), "refuse 14 at 2B");
         assert_eq!(line(0x00_00_00_63), "refuse 99");
+    }
+
+    /// The bits that the data sheets fix, anew from them: register, mask and value.
+    const MFRC531: &[(usize, u8, u8)] = &[
+        (0x11, 0x80, 0x00),
+        (0x12, 0xC0, 0x00),
+        (0x13, 0xC0, 0x00),
+        (0x14, 0xC0, 0x00),
+        (0x1A, 0x86, 0x00),
+        (0x1E, 0x3C, 0x00),
+        (0x1F, 0x20, 0x00),
+        (0x22, 0xC0, 0x00),
+        (0x25, 0xFF, 0x00),
+        (0x26, 0xF8, 0x00),
+        (0x29, 0xC0, 0x00),
+        (0x2A, 0xC0, 0x00),
+        (0x2B, 0xF0, 0x00),
+        (0x2D, 0xFC, 0x00),
+    ];
+    const RC530: &[(usize, u8, u8)] = &[
+        (0x11, 0x90, 0x10),
+        (0x12, 0xC0, 0x00),
+        (0x13, 0xFF, 0x3F),
+        (0x14, 0xC7, 0x01),
+        (0x16, 0xFF, 0x00),
+        (0x17, 0xFF, 0x00),
+        (0x19, 0x18, 0x10),
+        (0x1A, 0x9E, 0x08),
+        (0x1D, 0xE0, 0x00),
+        (0x1E, 0x3C, 0x00),
+        (0x1F, 0x20, 0x00),
+        (0x22, 0xC0, 0x00),
+        (0x25, 0xFF, 0x00),
+        (0x26, 0xF8, 0x00),
+        (0x29, 0xC0, 0x00),
+        (0x2A, 0xC0, 0x00),
+        (0x2B, 0xF0, 0x00),
+        (0x2D, 0xFC, 0x00),
+    ];
+
+    /// Every byte at every register of a profile that passes.
+    #[test]
+    fn each_edition_has_its_fixed_bits() {
+        let mut passing = SHIPPED_PROFILE_RC530;
+        passing[0x17 - 0x10] = 0x00;
+        for (edition, fixed) in [(Edition::Mfrc531, MFRC531), (Edition::Rc530, RC530)] {
+            assert_eq!(check_profile(edition, &passing), Ok(()));
+            for register in 0x10..0x30usize {
+                let (mask, value) = fixed.iter().find(|row| row.0 == register).map_or((0, 0), |row| (row.1, row.2));
+                for byte in 0..=255u8 {
+                    let mut profile = passing;
+                    profile[register - 0x10] = byte;
+                    let answer = check_profile(edition, &profile);
+                    match (byte ^ value) & mask {
+                        0 => assert!(!matches!(answer, Err(ProfileRefusal::FixedBit { .. })), "{edition} {register:02X} {byte:02X}"),
+                        differing => {
+                            let bit = differing.trailing_zeros() as u8;
+                            assert_eq!(answer, Err(ProfileRefusal::FixedBit { register: register as u8, bit }), "{edition} {byte:02X}");
+                        }
+                    }
+                }
+            }
+        }
+    }
+
+    /// The rules beyond fixed bits are alike for both editions.
+    #[test]
+    fn the_other_rules_are_alike() {
+        let mut passing = SHIPPED_PROFILE_RC530;
+        passing[0x17 - 0x10] = 0x00;
+        for &edition in Edition::ALL {
+            assert_eq!(check_profile(edition, &passing[..31]), Err(ProfileRefusal::Not32Bytes));
+            assert_eq!(check_profile(edition, &[0; 512]), Err(ProfileRefusal::Not32Bytes));
+            for (register, byte, refusal) in [
+                (0x2A, 22, ProfileRefusal::PrescalerAbove21 { register: 0x2A }),
+                (0x2C, 0, ProfileRefusal::ReloadZeroWithStart { register: 0x2C }),
+                (0x29, 32, ProfileRefusal::WaterLevelAbove31 { register: 0x29 }),
+            ] {
+                let mut profile = passing;
+                profile[register - 0x10] = byte;
+                assert_eq!(check_profile(edition, &profile), Err(refusal), "{edition}");
+            }
+        }
+    }
+
+    /// Each image is judged by its own edition, and that of none fails. The lengths go before all of it.
+    #[test]
+    fn the_choice_goes_by_each_images_edition() {
+        let first = shipped_image();
+        let mut second = shipped_image_of(Edition::Rc530);
+        assert_eq!(choose(&second, &first), Ok(Choice::Rescue)); // as shipped it fails at 17h
+        assert_eq!(choose(&second, &second), Err(Refusal::BothProfilesFail));
+        second[0x17] = 0x00;
+        assert_eq!(choose(&first, &second), Ok(Choice::User));
+        assert_eq!(choose(&second, &first), Ok(Choice::User));
+        let mut other = first; // the MFRC531's profile, which passes by its own table alone
+        other[..4].copy_from_slice(&Edition::Rc530.product_type());
+        assert_eq!(choose(&other, &second), Ok(Choice::Rescue));
+        assert_eq!(choose(&other, &other), Err(Refusal::BothProfilesFail));
+        for product_type in [[0x30, 0x88, 0xFF, 0x0F], [0; 4]] {
+            let mut none = second; // a profile that passes by both tables
+            none[..4].copy_from_slice(&product_type);
+            assert_eq!(choose(&none, &first), Ok(Choice::Rescue));
+            assert_eq!(choose(&first, &none), Ok(Choice::User));
+            assert_eq!(choose(&none, &none), Err(Refusal::BothProfilesFail));
+            assert_eq!(choose(&none, &first[..511]), Err(Refusal::ImageNot512Bytes));
+        }
     }
 }

@@ -1,7 +1,7 @@
 //! A chip as a person reads it.
 use crate::bits::{error_flag, interrupt_rq};
 use crate::memory::ChipMemory;
-use crate::{Chip, Command};
+use crate::{Chip, Command, Edition};
 use core::fmt;
 
 const REQUESTS: [(u8, &str); 6] = [
@@ -52,6 +52,19 @@ impl<I: Iterator<Item = u8> + Clone> fmt::Debug for Digits<I> {
     }
 }
 
+/// The edition, or what makes it none: the number, and the EEPROM's first four bytes.
+struct EditionShown<'a>(&'a ChipMemory);
+
+impl fmt::Debug for EditionShown<'_> {
+    fn fmt(&self, f: &mut fmt::Formatter<'_>) -> fmt::Result {
+        let ChipMemory { edition: number, eeprom, .. } = self.0;
+        match Edition::of(eeprom) {
+            Some(edition) if u8::from(edition) == *number => write!(f, "{edition}"),
+            _ => write!(f, "number {number} with {:?}, malformed", Digits(eeprom[..4].iter().copied())),
+        }
+    }
+}
+
 /// The active command, and how far it is.
 struct Stage<'a>(&'a ChipMemory);
 
@@ -86,6 +99,7 @@ impl fmt::Debug for Chip {
     fn fmt(&self, f: &mut fmt::Formatter<'_>) -> fmt::Result {
         let memory = self.memory();
         let mut shown = f.debug_struct("Chip");
+        shown.field("Edition", &EditionShown(memory));
         shown.field("Page", &format_args!("{:02X}", memory.page));
         shown.field("Command", &Stage(memory));
         match memory.held() {
@@ -110,14 +124,15 @@ impl fmt::Debug for Chip {
 #[cfg(test)]
 mod tests {
     use super::*;
-    use crate::{shipped_image, Refusal, Register};
+    use crate::{shipped_image, shipped_image_of, Refusal, Register};
     use std::format;
 
     #[test]
     fn a_chip_shows_what_firmware_looks_at() -> Result<(), Refusal> {
         let mut chip = Chip::start(&shipped_image())?;
-        let started = "Chip { Page: 80, Command: Idle, FIFO: [], InterruptEn: [], InterruptRq: [], ErrorFlag: [KeyErr], Timer: 0, stands, \
-                       CRC: 0000, Key: none, BitFraming: 00, Registers10hTo2Fh: [00 58 3F 3F 19 13 3F 3B 00 73 08 AD FF 1E 41 00 \
+        let started = "Chip { Edition: MFRC531, Page: 80, Command: Idle, FIFO: [], InterruptEn: [], InterruptRq: [], \
+                       ErrorFlag: [KeyErr], Timer: 0, stands, CRC: 0000, Key: none, BitFraming: 00, \
+                       Registers10hTo2Fh: [00 58 3F 3F 19 13 3F 3B 00 73 08 AD FF 1E 41 00 \
                        00 06 03 63 63 00 00 00 00 08 07 06 0A 02 00 00], .. }";
         assert_eq!(format!("{chip:?}"), started);
         chip.write(Register::Page, 0x00)?;
@@ -135,6 +150,8 @@ mod tests {
             chip.write(Register::FifoData, byte)?;
         }
         assert!(format!("{chip:?}").contains("Command: WriteE2, programs for 78648 clocks more"), "{chip:?}");
+        let chip = Chip::start(&shipped_image_of(Edition::Rc530))?;
+        assert!(format!("{chip:?}").starts_with("Chip { Edition: MF RC530, Page: 80, "), "{chip:?}");
         Ok(())
     }
 
@@ -144,7 +161,9 @@ mod tests {
         memory.stage = 0x3E;
         memory.fifo_write = 65;
         memory.error_flag = 0xFF;
+        memory.edition = 2;
         let shown = format!("{:?}", Chip::from_memory(memory));
+        assert!(shown.starts_with("Chip { Edition: number 2 with [00 00 00 00], malformed, Page: 00, "), "{shown}");
         assert!(shown.contains("Command: stage 3E, malformed, FIFO: 65 bytes, malformed, "), "{shown}");
         assert!(shown.contains("ErrorFlag: [KeyErr AccessErr FIFOOvfl CRCErr ParityErr 85]"), "{shown}");
         for stage in 0..=255u8 {

@@ -68,6 +68,7 @@ pub fn host_read(chip: Chip, address: u8) -> Outcome
         &mut state,
         &registers,
         &slots,
+        &eeprom,
         address,
     );
     let next = Chip {
@@ -183,6 +184,7 @@ pub fn take(chip: Chip, buffer: &mut [u8]) -> Outcome
         &mut state,
         &registers,
         &slots,
+        &eeprom,
         buffer,
     );
     let next = Chip {
@@ -221,6 +223,7 @@ pub fn deliver(chip: Chip, bytes: &[u8], parities: &[u8], last_bits: u8) -> Outc
         &mut state,
         &registers,
         &mut slots,
+        &eeprom,
         bytes,
         parities,
         last_bits,

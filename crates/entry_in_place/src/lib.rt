@@ -3,14 +3,17 @@
 // An event lends the chip's arrays where they lie to the event on the arrays, and answers its number. Nothing is copied.
 ghost use mathlib.Core.Path.{_≡_};
 ghost use mathlib.Core.List.{[]};
-ghost use Rattle.profile.specs.FixedBits.{fixedBits};
-ghost use Rattle.profile.specs.Check.{judged};
 ghost use Rattle.profile_choice.specs.Choice.{chosen};
 ghost use Rattle.machine.specs.Refusals.{start, hostRead, hostWrite, advance, takeFrame, deliver};
 ghost use Rattle.state.specs.Meets.{Meets};
 ghost use Rattle.profile_number.specs.Numbers.{profileNumber};
-ghost use Rattle.entry_in_place.specs.Numbers.{choiceNumber};
+ghost use Rattle.entry_in_place.specs.Numbers.{judgedFor, choiceNumber};
+use edition::Edition;
+use edition::MFRC531;
+use edition::RC530;
+use profile::check;
 use profile_choice::Choice;
+use profile_number::verdict_number;
 use state::Chip;
 
 // A start from an EEPROM image, whatever the chip was.
@@ -42,6 +45,7 @@ pub extern "C" fn mfrc531_read(chip: &mut Chip, address: u8) -> u32
         &mut chip.state,
         &chip.registers,
         &chip.slots,
+        &chip.eeprom,
         address,
     )
 }
@@ -96,6 +100,7 @@ pub extern "C" fn mfrc531_take(chip: &mut Chip, buffer: &mut [u8]) -> u32
         &mut chip.state,
         &chip.registers,
         &chip.slots,
+        &chip.eeprom,
         buffer,
     )
 }
@@ -118,18 +123,28 @@ pub extern "C" fn mfrc531_deliver(
         &mut chip.state,
         &chip.registers,
         &mut chip.slots,
+        &chip.eeprom,
         bytes,
         parities,
         last_bits,
     )
 }
 
-// The check of a start-up profile.
+// The check of a start-up profile, for the edition that a number stands for.
 #[no_mangle]
-pub extern "C" fn mfrc531_check_profile(profile: &[u8]) -> u32
-    ensures { λ r. ⌜ r ≡ profileNumber (judged fixedBits (now (profile .entry))) ⌝ }
+pub extern "C" fn mfrc531_check_profile(edition: u8, profile: &[u8]) -> u32
+    ensures { λ r. ⌜ r ≡ profileNumber (judgedFor edition (now (profile .entry))) ⌝ }
 {
-    profile_number::verdict_number(profile::check(profile))
+    if edition == MFRC531 {
+        return verdict_number(check(Edition::Mfrc531, profile));
+    }
+    if edition == RC530 {
+        return verdict_number(check(Edition::Rc530, profile));
+    }
+    if profile.len() == 32 {
+        return 7;
+    }
+    9
 }
 
 // The choice for a safe start, from two images.

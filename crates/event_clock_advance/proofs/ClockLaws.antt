@@ -12,16 +12,12 @@ use Rattle.machine.specs.WellFormedness.{Formed}
 use Rattle.machine.specs.Commands.{programs}
 use Rattle.machine.specs.Events.{programmed, clocks}
 use Rattle.machine.specs.ManyClocks.{timerAfter}
-use Rattle.machine.proofs.WellFormed.Parts.{Good, good-formed, each, well-timer, some-left}
+use Rattle.machine.proofs.WellFormed.Parts.{each, well-timer, some-left}
 use Rattle.machine.proofs.ManyClocks.Pieces.{formula-command, timer-alone, before-end, at-end}
 use Rattle.state.specs.View.{core, view, viewOf}
 use Rattle.state.specs.declared.Chip.{Chip}
 use Rattle.event_clock_advance.specs.Clock.{programmingEnded, programmingLeft}
 use Rattle.event_clock_advance.proofs.BatchLaws.{is-idle}
-
--- What so many clocks leave is well formed again, so that the next piece finds a well-formed machine.
-pub formed-by : {x m : Machine} → x ≡ m → Good m → Formed x
-formed-by {x} is good = good-formed x (subst Good (sym is) good)
 
 module _ (m : Machine) (formed : Formed m) where
   -- The timer's clocks leave the command.

@@ -6,6 +6,7 @@ ghost use Rattle.state.specs.Meets.{Promises};
 use state_fifo::alerted;
 use state_fifo::alerts_of;
 use state_formed::formed;
+use state_formed::of_own_edition;
 use state_formed::quick;
 
 mod clock;
@@ -31,8 +32,8 @@ pub fn advance<'a>(
         (now (slots .entry)) (now (latch .exit)) (now (key .entry)) (now (eeprom .exit)) in
         ⌜ Promises before (Refusals·advance by) after r [] ⌝ }
 {
-    if !quick(clocks, numbers, state) {
-        if !formed(clocks, numbers, state) {
+    if !quick(clocks, numbers, state) | !of_own_edition(state, eeprom) {
+        if !formed(clocks, numbers, state, eeprom) {
             return 7;
         }
     }

@@ -7,7 +7,7 @@ ghost use Rattle.machine.specs.Frames.{rxStopped, received as Frames·received}
 ghost use Rattle.machine.specs.Refusals.{deliver as Refusals·deliver};
 ghost use Rattle.state.specs.declared.Chip.{Chip};
 ghost use Rattle.state.specs.View.{withRegisters};
-ghost use Rattle.state.specs.Lent.{stateSlots, clocksStateRegisters, clocksStateRegistersSlots, clocksNumbersStateRegistersSlots};
+ghost use Rattle.state.specs.Lent.{stateSlots, clocksStateRegisters, clocksStateRegistersSlots, clocksNumbersStateRegistersSlotsEeprom};
 ghost use Rattle.state.specs.Turns.{Turns, Reads};
 ghost use Rattle.state.specs.Meets.{Promises};
 ghost use Rattle.event_frame_deliver.specs.Judged.{frameErrors};
@@ -99,19 +99,20 @@ pub fn deliver<'a, 'b, 'c>(
     state: &'a mut [u8; 24],
     registers: &'a [u8; 32],
     slots: &'a mut [u8; 64],
+    eeprom: &'a [u8; 512],
     bytes: &'b [u8],
     parities: &'c [u8],
     last_bits: u8,
 ) -> u32
     ensures { λ r.
-        let before = clocksNumbersStateRegistersSlots (now (clocks .entry)) (now (numbers .entry)) (now (state .entry))
-        (now (registers .entry)) (now (slots .entry)) in
-        let after = clocksNumbersStateRegistersSlots (now (clocks .exit)) (now (numbers .entry)) (now (state .exit))
-        (now (registers .entry)) (now (slots .exit)) in
+        let before = clocksNumbersStateRegistersSlotsEeprom (now (clocks .entry)) (now (numbers .entry)) (now (state .entry))
+        (now (registers .entry)) (now (slots .entry)) (now (eeprom .entry)) in
+        let after = clocksNumbersStateRegistersSlotsEeprom (now (clocks .exit)) (now (numbers .entry)) (now (state .exit))
+        (now (registers .entry)) (now (slots .exit)) (now (eeprom .entry)) in
         let call = Refusals·deliver (now (bytes .entry)) (now (parities .entry)) «last_bits» in
         ⌜ ((c : Chip) → Promises (before c) call (after c) r []) ⌝ }
 {
-    if !formed(clocks, numbers, state) {
+    if !formed(clocks, numbers, state, eeprom) {
         return 7;
     }
     if !frame_formed(bytes, parities, last_bits) {

@@ -6,7 +6,7 @@ ghost use lib.ListN.{length, take as ListN·take};
 ghost use Rattle.machine.specs.Refusals.{takeFrame};
 ghost use Rattle.machine.specs.Frames.{frameSent};
 ghost use Rattle.state.specs.View.{view, heldFrom};
-ghost use Rattle.state.specs.Lent.{stateRegistersSlots, clocksNumbersStateRegistersSlots};
+ghost use Rattle.state.specs.Lent.{stateRegistersSlots, clocksNumbersStateRegistersSlotsEeprom};
 ghost use Rattle.state.specs.Meets.{Promises};
 ghost use Rattle.state.specs.declared.Chip.{Chip};
 ghost use Rattle.event_frame_take.specs.Front.{atFront, Put, checksumBytes};
@@ -89,16 +89,17 @@ pub fn take<'a, 'b>(
     state: &'a mut [u8; 24],
     registers: &'a [u8; 32],
     slots: &'a [u8; 64],
+    eeprom: &'a [u8; 512],
     buffer: &'b mut [u8],
 ) -> u32
     ensures { λ r.
-        let before = clocksNumbersStateRegistersSlots (now (clocks .entry)) (now (numbers .entry)) (now (state .entry))
-        (now (registers .entry)) (now (slots .entry)) in
-        let after = clocksNumbersStateRegistersSlots (now (clocks .exit)) (now (numbers .entry)) (now (state .exit))
-        (now (registers .entry)) (now (slots .entry)) in
+        let before = clocksNumbersStateRegistersSlotsEeprom (now (clocks .entry)) (now (numbers .entry)) (now (state .entry))
+        (now (registers .entry)) (now (slots .entry)) (now (eeprom .entry)) in
+        let after = clocksNumbersStateRegistersSlotsEeprom (now (clocks .exit)) (now (numbers .entry)) (now (state .exit))
+        (now (registers .entry)) (now (slots .entry)) (now (eeprom .entry)) in
         ⌜ ((c : Chip) → Promises (before c) (takeFrame (now (buffer .entry))) (after c) r (now (buffer .exit))) ⌝ }
 {
-    if !formed(clocks, numbers, state) {
+    if !formed(clocks, numbers, state, eeprom) {
         return 7;
     }
     if buffer.len() < 66 {

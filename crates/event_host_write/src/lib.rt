@@ -29,6 +29,7 @@ use state_fifo::alerts_of;
 use state_fifo::fifo_written;
 use state_fifo::offered;
 use state_formed::formed;
+use state_formed::of_own_edition;
 use state_formed::quick;
 
 // A byte passes into CalcCRC's checksum, and TxIRq is set.
@@ -132,8 +133,8 @@ pub fn host_write<'a>(
         (now (slots .exit)) (now (latch .exit)) (now (key .exit)) (now (eeprom .entry)) in
         ⌜ Promises before (hostWrite address v) after r [] ⌝ }
 {
-    if !quick(clocks, numbers, state) {
-        if !formed(clocks, numbers, state) {
+    if !quick(clocks, numbers, state) | !of_own_edition(state, eeprom) {
+        if !formed(clocks, numbers, state, eeprom) {
             return 7;
         }
     }

@@ -2,8 +2,14 @@
 -- Assumes nothing.
 use Prim.Native.Nat.{ℕ}
 use mathlib.Core.Path.{_≡_, refl, ap, _∙_}
+use mathlib.Core.Bool.{Bool, true, false, cond}
 use mathlib.Core.List.{List, []}
+use mir.Val.{boolByte}
 use lib.ListN.{length, set, replicate}
+use Rattle.edition.specs.Edition.{isOf, numbered}
+use Rattle.edition.specs.declared.Edition.{Edition}
+use Rattle.edition.specs.declared.Edition.the-variants.{Mfrc531, Rc530}
+use Rattle.machine.specs.State.{withEdition}
 use Rattle.machine.specs.Memory.{bytesFrom, overRegisters}
 use Rattle.machine.specs.Refusals.{start}
 use Rattle.machine.specs.Events.{started}
@@ -14,23 +20,34 @@ use Rattle.state.specs.Formed.{fieldsFormed}
 use Rattle.state.specs.declared.Chip.{Chip}
 use Rattle.state.proofs.MeetLaws.{Done}
 
--- Every element 0 but Page, ErrorFlag, the registers and the EEPROM.
-abbrev pub fresh : List ℕ → List ℕ → Chip
-fresh registers eeprom =
-    assembled (replicate 2 0) (replicate 6 0) (set (set (replicate 24 0) 0 0x80) 7 0x40) registers (replicate 64 0) (replicate 16 0) (replicate 6 0) eeprom
+-- Every element 0 but Page, ErrorFlag, the edition, the registers and the EEPROM.
+abbrev pub fresh : Bool → List ℕ → List ℕ → Chip
+fresh rc530 registers eeprom =
+    assembled (replicate 2 0) (replicate 6 0) (set (set (set (replicate 24 0) 0 0x80) 7 0x40) 11 (boolByte rc530)) registers
+    (replicate 64 0) (replicate 16 0) (replicate 6 0) eeprom
 
--- The EEPROM is the image, and the registers are loaded from it: all that a start owes.
-pub fresh-done : (c : Chip) (registers eeprom image : List ℕ) → length image ≡ 512 → eeprom ≡ image → registers ≡ overRegisters 0 (replicate 32 0) (bytesFrom image 0x10 32) →
-    Done c (start image) (fresh registers eeprom) 0 []
-unfolding viewOf heldFrom fieldsFormed started
-fresh-done c registers eeprom image whole stored loaded =
+-- The edition's number is that of the image's edition, and one that there is.
+edition-set : (rc530 : Bool) → numbered (boolByte rc530) ≡ cond rc530 Rc530 Mfrc531
+edition-set true = refl
+edition-set false = refl
+
+fields-fresh : (rc530 : Bool) (registers eeprom : List ℕ) → fieldsFormed (fresh rc530 registers eeprom) ≡ true
+unfolding fieldsFormed
+fields-fresh true registers eeprom = refl
+fields-fresh false registers eeprom = refl
+
+-- The EEPROM is the image, the registers are loaded from it, and the edition is the image's: all that a start owes.
+pub fresh-done : (c : Chip) (rc530 : Bool) (registers eeprom image : List ℕ) → rc530 ≡ isOf Rc530 image → length image ≡ 512 → eeprom ≡ image →
+    registers ≡ overRegisters 0 (replicate 32 0) (bytesFrom image 0x10 32) → Done c (start image) (fresh rc530 registers eeprom) 0 []
+unfolding viewOf heldFrom started
+fresh-done c rc530 registers eeprom image is whole stored loaded =
     record {
       answered = refl;
       turned =
-          ap (λ (l : List ℕ). view (fresh l eeprom)) loaded
-          ∙ ap (λ (l : List ℕ). view (fresh (overRegisters 0 (replicate 32 0) (bytesFrom image 0x10 32)) l)) stored;
+          (λ i. view (fresh rc530 (loaded i) (stored i)))
+          ∙ ap (λ (e : Edition). withEdition e (started image)) (edition-set rc530 ∙ ap (λ (t : Bool). cond t Rc530 Mfrc531) is);
       lent = refl;
-      fields = refl;
+      fields = fields-fresh rc530 registers eeprom;
       sizes =
           record {
             clock-count = refl;

@@ -1,11 +1,14 @@
-// The start on the chip's arrays (manual 9.1): from an EEPROM image, whatever the chip was.
+// The start on the chip's arrays (manual 9.1): from an EEPROM image, whatever the chip was, as a chip of the image's edition.
 ghost use mathlib.Core.Path.{_≡_};
 ghost use mathlib.Core.List.{[]};
 ghost use lib.ListN.{length};
 ghost use Rattle.machine.specs.Refusals.{start as Refusals·start};
 ghost use Rattle.state.specs.Lent.{assembled};
 ghost use Rattle.state.specs.Meets.{Promises};
+use edition::Edition;
+use edition::is_of;
 use register_load::load_registers;
+use state::EDITION;
 use state::ERRORS;
 use state::PAGE;
 
@@ -43,6 +46,10 @@ pub fn start<'a, 'b>(
     if image.len() != 512 {
         return 2;
     }
+    let rc530 = is_of(Edition::Rc530, image);
+    if !(is_of(Edition::Mfrc531, image) | rc530) {
+        return 22;
+    }
     let no_clocks = [0u32; 2];
     *clocks = no_clocks;
     let no_numbers = [0u16; 6];
@@ -51,6 +58,7 @@ pub fn start<'a, 'b>(
     *state = no_state;
     state[PAGE] = 0x80;
     state[ERRORS] = 0x40;
+    state[EDITION] = rc530 as u8;
     let no_slots = [0u8; 64];
     *slots = no_slots;
     let no_latch = [0u8; 16];

@@ -35,7 +35,7 @@ module _ (image : List ℕ) where
   accepted-agrees : (c : Call) (m : Machine) (j : Journal) → refusal m c ≡ 0 → AgreesWith image m j → AgreesWith image (accepted m c .next) (enterAccepted c m j)
   unfolding refusal written afterRead advanced taken delivered alerted
   accepted-agrees (start image′) m j ok a =
-      started-agrees image image′ j (eqb-true (length image′) 512 (not-false _ (passed-test (not (eqb (length image′) 512)) 1 0 ok .0))) a
+      started-agrees image image′ j (eqb-true (length image′) 512 (not-false _ (passed-test (not (eqb (length image′) 512)) 1 _ ok .0))) a
   accepted-agrees (hostRead address) m j ok a = read-agrees image (eqb (mapped (m .page) address) 0x02) m j a
   accepted-agrees (hostWrite address v) m j ok a = written-agrees image (mapped (m .page) address) v m m j a
   accepted-agrees (advance n) m j ok a = clocks-agree image n m j a

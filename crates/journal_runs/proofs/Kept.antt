@@ -7,11 +7,11 @@ use Prim.Native.Nat.{ℕ, zero, suc}
 use native.Mathlib.Omega.{arith}
 use lib.Dec.{eqb}
 use lib.ListN.{length}
-use borrow.Author.Tests.{eq-eqb, eqb-true}
+use borrow.Author.Tests.{eqb-true}
 use Rattle.machine.specs.State.{Machine}
 use Rattle.machine.specs.Refusals.{Call, start, hostRead, hostWrite, advance, takeFrame, deliver, refusal}
 use Rattle.machine.specs.Events.{Outcome, perform, started}
-use Rattle.machine.proofs.Performing.{as-accepted}
+use Rattle.machine.proofs.Performing.{as-accepted, passed-test, not-false}
 use Rattle.machine.proofs.WellFormed.Kept.{well-formedness}
 use Rattle.journal.specs.Journal.{Both, empty, called, after}
 use Rattle.journal.specs.Demand.{run, Conserved, NextCall}
@@ -110,28 +110,24 @@ ran image (next {s = x} call rest) s agrees same formed =
       );
     }
 
--- A start from a whole image is not refused.
-start-accepted : (c : Chip) (image : List ℕ) → length image ≡ 512 → chipRefusal c (start image) ≡ 0
-unfolding chipRefusal refusal
-start-accepted c image size = ap (λ (t : Bool). cond (not t) 2 0) (eq-eqb (length image) 512 size)
-
--- A start that answers 0 had a whole image: another length is refused with 2.
-start-refused : (c : Chip) (image : List ℕ) → eqb (length image) 512 ≡ false → chipRefusal c (start image) ≡ 2
-unfolding chipRefusal refusal
-start-refused c image e = ap (λ (t : Bool). cond (not t) 2 0) e
-
-whole-image : (image : List ℕ) {c d : Chip} → Meets c (start image) d 0 [] → length image ≡ 512
-whole-image image {c} meets = go (eqb (length image) 512) refl
+-- A start that answers 0 was not refused, so its image was whole.
+start-passed : (image : List ℕ) {c d : Chip} → Meets c (start image) d 0 [] → chipRefusal c (start image) ≡ 0
+start-passed image {c} meets = go (chipRefusal c (start image)) refl
   where
-    go : (t : Bool) → eqb (length image) 512 ≡ t → length image ≡ 512
-    go true e = eqb-true (length image) 512 e
-    go false e = absurd (omega (arith, meets .refuses 1 (start-refused c image e) .0))
+    go : (n : ℕ) → chipRefusal c (start image) ≡ n → chipRefusal c (start image) ≡ 0
+    go zero e = e
+    go (suc n) e = absurd (omega (arith, meets .refuses n e .0))
+
+whole-image : (image : List ℕ) (c : Chip) → chipRefusal c (start image) ≡ 0 → length image ≡ 512
+unfolding chipRefusal refusal
+whole-image image c passed = eqb-true (length image) 512 (not-false _ (passed-test (not (eqb (length image) 512)) 1 _ passed .0))
 
 kept : (image : List ℕ) (old fresh c : Chip) (steps : List Step) → Called old (step (start image) 0 [] fresh) → Run fresh steps c → Kept image steps c
 unfolding after
 kept image old fresh c steps begins runs =
-    let size = whole-image image (called-meets begins) in
-    let first = called-meets begins .accepts (start-accepted old image size) in
+    let passed = start-passed image (called-meets begins) in
+    let size = whole-image image old passed in
+    let first = called-meets begins .accepts passed in
     let r = ran image runs (record { machine = started image; journal = empty }) (run-agrees image size []) (first .1) (first .3) in
     let same : _≡_ {A = Both} (run image (callsOf steps)) (record { machine = view c; journal = run image (callsOf steps) .journal }) =
     ap (λ (m : Machine). record { machine = m; journal = run image (callsOf steps) .journal }) (sym (r .machine)) in

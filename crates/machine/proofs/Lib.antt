@@ -1,5 +1,6 @@
 pub mod Cases
 pub mod Clock
+pub mod Editions
 pub mod ManyClocks
 pub mod ModemStates
 pub mod Numbers

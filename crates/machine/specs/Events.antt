@@ -5,6 +5,7 @@ use mathlib.Core.Bool.{Bool, true, false, cond}
 use mathlib.Core.List.{List, [], _∷_, _++_}
 use lib.Dec.{eqb, leb}
 use lib.ListN.{length, take, drop, replicate}
+use Rattle.edition.specs.Edition.{editionOf}
 use Rattle.key.specs.Key.{emptyKey}
 use Rattle.machine.specs.State.{Machine, Command, Interrupts, Idle, WriteE2, ready, programming, whileProgramming, withCommand, withHeld, withEeprom}
 use Rattle.machine.specs.Refusals.{Call, start, hostRead, hostWrite, advance, takeFrame, deliver, refusal}
@@ -19,7 +20,7 @@ abbrev pub noInterrupts : Interrupts
 noInterrupts = record { timer = false; tx = false; rx = false; idle = false; hiAlert = false; loAlert = false }
 
 -- A start (manual 9.1): all is 0 or empty but Page, which is 80h, KeyErr, which is set, and registers 10h-2Fh, which are loaded from the image's bytes
--- 010h-02Fh.
+-- 010h-02Fh. The edition is the image's.
 unfoldable pub started : List ℕ → Machine
 started image =
     record {
@@ -40,6 +41,7 @@ started image =
       bitFraming = 0;
       registers = overRegisters 0 (replicate 32 0) (bytesFrom image 0x10 32);
       eeprom = image;
+      edition = editionOf image;
     }
 
 -- A host write changes its register, and the active command then does what it can.

@@ -10,6 +10,7 @@ pub mod Memory
 pub mod Frames
 pub mod State
 pub mod WellFormedness
+pub mod Editions
 pub mod SingleClock
 pub mod ManyClocks
 pub mod ProgrammingTime

@@ -7,7 +7,8 @@ use mathlib.Core.Path.{_≡_}
 use Rattle.crc.specs.Checksum.{checksum}
 use Rattle.key.specs.Key.{stored, formatHolds, keyOf}
 use Rattle.profile.specs.Answer.{pass, refuse-at}
-use Rattle.profile.specs.FixedBits.{fixedBits}
+use Rattle.edition.specs.Edition.{fixedBits}
+use Rattle.edition.specs.declared.Edition.the-variants.{Mfrc531}
 use Rattle.profile.specs.Check.{judged}
 use lib.ListN.{length, replicate, take, drop}
 use Rattle.machine.specs.State.{Machine, Idle}
@@ -88,10 +89,10 @@ pub record NumbersToMeet : Type 0 where
   pub key-format : formatHolds exampleStored ≡ true
   pub key-read : keyOf exampleStored ≡ exampleKey
   -- In the shipped profile, which passes itself, 21 is the last prescaler that passes; 22 and 24 are refused with 11, at 2Ah.
-  pub shipped-passes : judged fixedBits shipped ≡ pass
-  pub prescaler-21 : judged fixedBits (shippedWith 0x2A 21) ≡ pass
-  pub prescaler-22 : judged fixedBits (shippedWith 0x2A 22) ≡ refuse-at 11 0x2A
-  pub prescaler-24 : judged fixedBits (shippedWith 0x2A 24) ≡ refuse-at 11 0x2A
+  pub shipped-passes : judged (fixedBits Mfrc531) shipped ≡ pass
+  pub prescaler-21 : judged (fixedBits Mfrc531) (shippedWith 0x2A 21) ≡ pass
+  pub prescaler-22 : judged (fixedBits Mfrc531) (shippedWith 0x2A 22) ≡ refuse-at 11 0x2A
+  pub prescaler-24 : judged (fixedBits Mfrc531) (shippedWith 0x2A 24) ≡ refuse-at 11 0x2A
   -- The FIFO has room for 64 bytes, and one more sets FIFOOvfl.
   pub sixty-four-held : length (afterStart (offers 64) .held) ≡ 64
   pub no-overflow-at-64 : afterStart (offers 64) .status .errors .fifoOvfl ≡ false

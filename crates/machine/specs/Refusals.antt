@@ -1,5 +1,5 @@
 -- Manual 10: which call is refused with which number. A call's tests come one after the other, 7 ahead of all others and 4 behind them; of a start
--- only the image is judged. The number 0 stands for no refusal, and 3 is never given: an advance is by any number of clocks.
+-- only the image is judged, its length first. The number 0 stands for no refusal, and 3 is never given: an advance is by any number of clocks.
 -- Assumes nothing.
 use Prim.Native.Nat.{ℕ, _<_}
 use Rattle.bits.specs.Bits.{Bytes}
@@ -7,6 +7,7 @@ use mathlib.Core.Bool.{Bool, true, cond, not, _&&_, _||_}
 use mathlib.Core.List.{List, [], _∷_}
 use lib.Dec.{ltb, leb, eqb}
 use lib.ListN.{length}
+use Rattle.edition.specs.Edition.{ofEither}
 use Rattle.machine.specs.State.{Machine}
 use Rattle.machine.specs.Frames.{sending, receiving}
 use Rattle.machine.specs.WellFormed.{wellFormed}
@@ -40,7 +41,7 @@ abbrev pub refuseIf : Bool → ℕ → ℕ → ℕ
 refuseIf test number else = cond test number else
 
 unfoldable pub refusal : Machine → Call → ℕ
-refusal m (start image) = refuseIf (not (eqb (length image) 512)) 2 0
+refusal m (start image) = refuseIf (not (eqb (length image) 512)) 2 (refuseIf (not (ofEither image)) 22 0)
 refusal m (hostRead address) = refuseIf (not (wellFormed m)) 7 (refuseIf (ltb 63 address) 1 0)
 refusal m (hostWrite address v) = refuseIf (not (wellFormed m)) 7 (refuseIf (ltb 63 address) 1 0)
 refusal m (advance clocks) = refuseIf (not (wellFormed m)) 7 0

@@ -3,6 +3,7 @@
 use Prim.Native.Nat.{ℕ}
 use mathlib.Core.Bool.{Bool}
 use mathlib.Core.List.{List}
+use Rattle.edition.specs.declared.Edition.{Edition}
 
 -- The six sources of InterruptEn (06h) and InterruptRq (07h).
 pub record Interrupts : Type 0 where
@@ -110,10 +111,12 @@ pub record Machine : Type 0 where
   pub registers : List ℕ
   -- 512 bytes
   pub eeprom : List ℕ
+  -- which of the two chips it is
+  pub edition : Edition
 
 -- Records from their parts, in the order of their fields.
-abbrev pub machineOf : ℕ → Command → List ℕ → Status → Timer → Checksum → Key → ℕ → List ℕ → List ℕ → Machine
-machineOf page command held status timer checksum key bitFraming registers eeprom =
+abbrev pub machineOf : ℕ → Command → List ℕ → Status → Timer → Checksum → Key → ℕ → List ℕ → List ℕ → Edition → Machine
+machineOf page command held status timer checksum key bitFraming registers eeprom edition =
     record {
       page = page;
       command = command;
@@ -125,6 +128,7 @@ machineOf page command held status timer checksum key bitFraming registers eepro
       bitFraming = bitFraming;
       registers = registers;
       eeprom = eeprom;
+      edition = edition;
     }
 
 abbrev pub statusOf : Interrupts → Interrupts → Errors → ℕ → ℕ → Status
@@ -141,34 +145,37 @@ fiveFlags keyErr accessErr fifoOvfl crcErr parityErr =
 
 -- Setters of the machine's parts.
 abbrev pub withPage : ℕ → Machine → Machine
-withPage x m = machineOf x (m .command) (m .held) (m .status) (m .timer) (m .checksum) (m .key) (m .bitFraming) (m .registers) (m .eeprom)
+withPage x m = machineOf x (m .command) (m .held) (m .status) (m .timer) (m .checksum) (m .key) (m .bitFraming) (m .registers) (m .eeprom) (m .edition)
 
 abbrev pub withCommand : Command → Machine → Machine
-withCommand x m = machineOf (m .page) x (m .held) (m .status) (m .timer) (m .checksum) (m .key) (m .bitFraming) (m .registers) (m .eeprom)
+withCommand x m = machineOf (m .page) x (m .held) (m .status) (m .timer) (m .checksum) (m .key) (m .bitFraming) (m .registers) (m .eeprom) (m .edition)
 
 abbrev pub withHeld : List ℕ → Machine → Machine
-withHeld x m = machineOf (m .page) (m .command) x (m .status) (m .timer) (m .checksum) (m .key) (m .bitFraming) (m .registers) (m .eeprom)
+withHeld x m = machineOf (m .page) (m .command) x (m .status) (m .timer) (m .checksum) (m .key) (m .bitFraming) (m .registers) (m .eeprom) (m .edition)
 
 abbrev pub withStatus : Status → Machine → Machine
-withStatus x m = machineOf (m .page) (m .command) (m .held) x (m .timer) (m .checksum) (m .key) (m .bitFraming) (m .registers) (m .eeprom)
+withStatus x m = machineOf (m .page) (m .command) (m .held) x (m .timer) (m .checksum) (m .key) (m .bitFraming) (m .registers) (m .eeprom) (m .edition)
 
 abbrev pub withTimer : Timer → Machine → Machine
-withTimer x m = machineOf (m .page) (m .command) (m .held) (m .status) x (m .checksum) (m .key) (m .bitFraming) (m .registers) (m .eeprom)
+withTimer x m = machineOf (m .page) (m .command) (m .held) (m .status) x (m .checksum) (m .key) (m .bitFraming) (m .registers) (m .eeprom) (m .edition)
 
 abbrev pub withChecksum : Checksum → Machine → Machine
-withChecksum x m = machineOf (m .page) (m .command) (m .held) (m .status) (m .timer) x (m .key) (m .bitFraming) (m .registers) (m .eeprom)
+withChecksum x m = machineOf (m .page) (m .command) (m .held) (m .status) (m .timer) x (m .key) (m .bitFraming) (m .registers) (m .eeprom) (m .edition)
 
 abbrev pub withKey : Key → Machine → Machine
-withKey x m = machineOf (m .page) (m .command) (m .held) (m .status) (m .timer) (m .checksum) x (m .bitFraming) (m .registers) (m .eeprom)
+withKey x m = machineOf (m .page) (m .command) (m .held) (m .status) (m .timer) (m .checksum) x (m .bitFraming) (m .registers) (m .eeprom) (m .edition)
 
 abbrev pub withBitFraming : ℕ → Machine → Machine
-withBitFraming x m = machineOf (m .page) (m .command) (m .held) (m .status) (m .timer) (m .checksum) (m .key) x (m .registers) (m .eeprom)
+withBitFraming x m = machineOf (m .page) (m .command) (m .held) (m .status) (m .timer) (m .checksum) (m .key) x (m .registers) (m .eeprom) (m .edition)
 
 abbrev pub withRegisters : List ℕ → Machine → Machine
-withRegisters x m = machineOf (m .page) (m .command) (m .held) (m .status) (m .timer) (m .checksum) (m .key) (m .bitFraming) x (m .eeprom)
+withRegisters x m = machineOf (m .page) (m .command) (m .held) (m .status) (m .timer) (m .checksum) (m .key) (m .bitFraming) x (m .eeprom) (m .edition)
 
 abbrev pub withEeprom : List ℕ → Machine → Machine
-withEeprom x m = machineOf (m .page) (m .command) (m .held) (m .status) (m .timer) (m .checksum) (m .key) (m .bitFraming) (m .registers) x
+withEeprom x m = machineOf (m .page) (m .command) (m .held) (m .status) (m .timer) (m .checksum) (m .key) (m .bitFraming) (m .registers) x (m .edition)
+
+abbrev pub withEdition : Edition → Machine → Machine
+withEdition x m = machineOf (m .page) (m .command) (m .held) (m .status) (m .timer) (m .checksum) (m .key) (m .bitFraming) (m .registers) (m .eeprom) x
 
 -- Setters of the status.
 abbrev pub withEnables : Interrupts → Machine → Machine

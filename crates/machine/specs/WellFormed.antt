@@ -8,6 +8,7 @@ use Rattle.bits.specs.Bits.{Bytes}
 use lib.Dec.{ltb, leb, eqb}
 use lib.ListN.{length}
 use Rattle.crc.specs.Checksum.{CRC8}
+use Rattle.edition.specs.Edition.{isOf}
 use Rattle.machine.specs.State.{Machine, Command, Writing, Timer, Checksum, withinWriteE2, whileProgramming}
 use Rattle.machine.specs.State.{Idle, WriteE2, ReadE2, LoadConfig, LoadKeyE2, LoadKey, CalcCRC, Transmit, Receive, TransceiveSending, TransceiveReceiving, addressing, ready, programming}
 use Rattle.machine.specs.Memory.{programmingClocks}
@@ -64,14 +65,16 @@ checksumFormed c = cond (CRC8 (c .mode)) (ltb (c .register) 0x100) true
 abbrev pub bitsFormed : ℕ → ℕ → ℕ → Bool
 bitsFormed page control rxLastBits = eqb (page / 8 % 16) 0 && (eqb (control % 16) 0 && (eqb (control / 64) 0 && ltb rxLastBits 8))
 
+-- The memory is of the machine's own edition, and every part is formed.
 unfoldable pub wellFormed : Machine → Bool
 wellFormed m =
-    fifoFormed (m .held)
+    isOf (m .edition) (m .eeprom)
+    && (fifoFormed (m .held)
     && (timerFormed (m .timer)
     && (commandFormed (m .command)
     && (nothingPends (m .command) (m .held)
     && (checksumFormed (m .checksum)
-    && bitsFormed (m .page) (m .status .control) (m .status .rxLastBits)))))
+    && bitsFormed (m .page) (m .status .control) (m .status .rxLastBits))))))
 
 -- What every chip's machine is by the types of its fields: bytes are bytes, and memories have their sizes. It is no part of refusal 7.
 abbrev pub latchedBytes : Command → List ℕ

@@ -7,6 +7,7 @@ use mathlib.Core.List.{List, [], _∷_}
 use lib.Dec.{eqb}
 use lib.ListN.{length}
 use Rattle.bits.specs.Bits.{Bytes}
+use Rattle.edition.specs.Edition.{ofEither}
 use Rattle.machine.specs.State.{Machine}
 use Rattle.machine.specs.WellFormed.{wellFormed, Sized}
 use Rattle.machine.specs.Registers.{mapped}
@@ -26,8 +27,8 @@ pub record Formed (m : Machine) : Type 0 where
   pub sized : Sized m
 
 pub record WellFormedness : Type 0 where
-  -- a start gives a well-formed machine
-  pub starts : (image : List ℕ) → Bytes image → length image ≡ 512 → Formed (started image)
+  -- a start, from an image that it does not refuse, gives a well-formed machine
+  pub starts : (image : List ℕ) → Bytes image → length image ≡ 512 → ofEither image ≡ true → Formed (started image)
   -- every call leads from a well-formed machine to a well-formed one, refused or not
   pub kept : (m : Machine) (c : Call) → ByteCall c → Formed m → Formed (perform m c .next)
   -- after every list of calls

@@ -8,9 +8,9 @@ use mathlib.Core.Bool.{Bool, true, false, cond}
 use mathlib.Core.List.{List}
 use lib.ListN.{getD}
 use Rattle.profile.specs.Answer.{Answer, pass, refuse-bit, isPass, orElse, refusalAnswer}
-use Rattle.profile.specs.FixedBits.{fixed}
+use Rattle.edition.specs.FixedBits.{fixed}
 use Rattle.profile.specs.Check.{firstRefusal, differsAt, bitJudged, fixedBitsJudged, valueJudged, registerJudged}
-use Rattle.profile.specs.declared.FixedBits.{FixedBits}
+use Rattle.edition.specs.declared.FixedBits.{FixedBits}
 use Rattle.profile.specs.declared.Refusal.{Refusal}
 use Rattle.profile.specs.declared.Refusal.the-variants.{Length, FixedBit, PreScaler, Reload, WaterLevel}
 

@@ -1,5 +1,5 @@
 -- The profile check (manual 11.3, 11.4), which gives the refusals 9 to 13. After the length, one walk by register address; at one address the fixed
--- bits come before the values. The table of fixed bits is a parameter.
+-- bits come before the values. The table of fixed bits, which is the edition's (edition, Edition), is a parameter; all else is the same for both editions.
 -- Assumes nothing.
 use Prim.Native.Nat.{ℕ, zero, suc, _+_, _-_, _%_}
 use mathlib.Core.Bool.{Bool, _&&_, _||_, not, cond}
@@ -8,8 +8,8 @@ use lib.Dec.{eqb, ltb}
 use lib.ListN.{length, getD}
 use Rattle.bits.specs.Bits.{bit, bitSet}
 use Rattle.profile.specs.Answer.{Answer, pass, refuse, refuse-at, refuse-bit, orElse}
-use Rattle.profile.specs.FixedBits.{fixed}
-use Rattle.profile.specs.declared.FixedBits.{FixedBits}
+use Rattle.edition.specs.FixedBits.{fixed}
+use Rattle.edition.specs.declared.FixedBits.{FixedBits}
 
 -- The profile's byte for a register, and the table's entry for it. The first of both is for 10h.
 abbrev pub byteFor : List ℕ → ℕ → ℕ

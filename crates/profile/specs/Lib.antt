@@ -1,5 +1,4 @@
 pub mod Answer
-pub mod FixedBits
 pub mod Check
 pub mod Shipped
 pub mod Examples

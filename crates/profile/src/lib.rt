@@ -1,13 +1,13 @@
-// The profile check: thirty-two bytes for registers 10h to 2Fh pass, or are refused with a number of manual 11.
+// The profile check: thirty-two bytes for registers 10h to 2Fh of an edition pass, or are refused with a number of manual 11.
 ghost use mathlib.Core.Path.{_≡_};
 ghost use Prim.Native.Nat.{_<_};
 ghost use Rattle.profile.specs.Answer.{answerOf};
-ghost use lib.ListN.{length, getD};
-ghost use Rattle.profile.specs.FixedBits.{fixed, fixedBits};
+ghost use lib.ListN.{length};
+ghost use Rattle.edition.specs.Edition.{fixedBits};
 ghost use Rattle.profile.specs.Check.{differsAt, aboveLimit, reloadRefused, valueJudged, judged};
-
-// The fixed bits of one register: a mask of them, and the value that they have.
-pub struct FixedBits(pub u8, pub u8);
+use edition::Edition;
+use edition::FixedBits;
+use edition::fixed_bits;
 
 // Why a profile is refused, with the address of the register where one is named.
 pub enum Refusal {
@@ -26,50 +26,6 @@ pub enum Refusal {
 pub enum Verdict {
     Pass,
     Refused(Refusal),
-}
-
-// The fixed bits of the MFRC531, by position: the entry at 0 is for register 10h. specs/FixedBits.antt cites the data sheet for each.
-const FIXED_BITS: [FixedBits; 32] = [
-    FixedBits(0x00, 0x00), // 10h Page
-    FixedBits(0x80, 0x00), // 11h TxControl
-    FixedBits(0xC0, 0x00), // 12h CwConductance
-    FixedBits(0xC0, 0x00), // 13h ModConductance
-    FixedBits(0xC0, 0x00), // 14h CoderControl
-    FixedBits(0x00, 0x00), // 15h ModWidth
-    FixedBits(0x00, 0x00), // 16h PreSet16
-    FixedBits(0x00, 0x00), // 17h TypeBFraming
-    FixedBits(0x00, 0x00), // 18h Page
-    FixedBits(0x00, 0x00), // 19h RxControl1
-    FixedBits(0x86, 0x00), // 1Ah DecoderControl
-    FixedBits(0x00, 0x00), // 1Bh BitPhase
-    FixedBits(0x00, 0x00), // 1Ch RxThreshold
-    FixedBits(0x00, 0x00), // 1Dh BPSKDemControl
-    FixedBits(0x3C, 0x00), // 1Eh RxControl2
-    FixedBits(0x20, 0x00), // 1Fh ClockQControl
-    FixedBits(0x00, 0x00), // 20h Page
-    FixedBits(0x00, 0x00), // 21h RxWait
-    FixedBits(0xC0, 0x00), // 22h ChannelRedundancy
-    FixedBits(0x00, 0x00), // 23h CRCPresetLSB
-    FixedBits(0x00, 0x00), // 24h CRCPresetMSB
-    FixedBits(0xFF, 0x00), // 25h PreSet25
-    FixedBits(0xF8, 0x00), // 26h MFOUTSelect
-    FixedBits(0x00, 0x00), // 27h PreSet27
-    FixedBits(0x00, 0x00), // 28h Page
-    FixedBits(0xC0, 0x00), // 29h FIFOLevel
-    FixedBits(0xC0, 0x00), // 2Ah TimerClock
-    FixedBits(0xF0, 0x00), // 2Bh TimerControl
-    FixedBits(0x00, 0x00), // 2Ch TimerReload
-    FixedBits(0xFC, 0x00), // 2Dh IRQPinConfig
-    FixedBits(0x00, 0x00), // 2Eh PreSet2E
-    FixedBits(0x00, 0x00), // 2Fh PreSet2F
-];
-
-// The entry for a position.
-fn fixed_bits(position: usize) -> FixedBits
-    requires { ⌜ position < 32 ⌝ }
-    ensures { λ r. ⌜ r ≡ getD fixedBits position (fixed 0x00 0x00) ⌝ }
-{
-    FIXED_BITS[position]
 }
 
 // Bit `bit` is fixed, and the byte has it at the other value.
@@ -130,9 +86,9 @@ fn value_verdict(profile: &[u8], register: u8) -> Verdict
     Verdict::Pass
 }
 
-// The verdict on any bytes.
-pub fn check(profile: &[u8]) -> Verdict
-    ensures { λ r. ⌜ answerOf r ≡ judged fixedBits (now (profile .entry)) ⌝ }
+// The verdict on any bytes, for a chip of an edition.
+pub fn check(edition: Edition, profile: &[u8]) -> Verdict
+    ensures { λ r. ⌜ answerOf r ≡ judged (fixedBits edition) (now (profile .entry)) ⌝ }
 {
     if profile.len() != 32 {
         return Verdict::Refused(Refusal::Length);
@@ -140,7 +96,7 @@ pub fn check(profile: &[u8]) -> Verdict
     let mut verdict = Verdict::Pass;
     'registers: for position in 0..32 {
         let register = (0x10 + position) as u8;
-        let fixed = fixed_bits(position);
+        let fixed = fixed_bits(edition, position);
         let byte = profile[position];
         for bit in 0..8 {
             if differs(fixed, byte, bit) {

@@ -1,10 +1,11 @@
-// Reads a profile from standard input and writes the verdict on it as one line: `pass`, or why it is refused.
+// Reads a profile of the MFRC531 from standard input and writes the verdict on it as one line: `pass`, or why it is refused.
 //
 // Input of any length has a verdict; one byte more than a profile has is enough to know that the length is wrong, so no more is read.
 // A read or a write that fails is named on standard error, and a failed read gives no verdict.
 ghost use Prim.Native.Nat.{_≤_};
 ghost use lib.ListN.{length};
 ghost use Rattle.profile_check.specs.Input.{countOf};
+use edition::Edition;
 use libc::STDIN_FILENO;
 use libc::STDOUT_FILENO;
 
@@ -37,7 +38,7 @@ fn read_input(buffer: &mut [u8]) -> Input
 // Writes the verdict on a profile.
 fn answer(profile: &[u8]) {
     let mut line = [0u8; 32];
-    let end = profile_line::write_line(profile::check(profile), &mut line);
+    let end = profile_line::write_line(profile::check(Edition::Mfrc531, profile), &mut line);
     if !io::write_all(STDOUT_FILENO, &line[..end]) {
         os::fail(b"profile_check: standard output");
     }

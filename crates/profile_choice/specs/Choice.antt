@@ -1,5 +1,5 @@
--- The choice for a safe start (manual 11.5): of two images, the user's and the rescue image, the first one whose start-up profile passes the check,
--- and that part of it. Its refusals are 2 and 8.
+-- The choice for a safe start (manual 11.5): of two images, the user's and the rescue image, the first one whose start-up profile passes the check of
+-- its own edition, and that part of it. Its refusals are 2 and 8.
 -- Assumes nothing.
 use Prim.Native.Nat.{ℕ}
 use mathlib.Core.Bool.{Bool, _&&_, cond}
@@ -7,7 +7,7 @@ use mathlib.Core.List.{List, []}
 use lib.Dec.{eqb}
 use lib.ListN.{length, take, drop}
 use Rattle.profile.specs.Answer.{isPass}
-use Rattle.profile.specs.FixedBits.{fixedBits}
+use Rattle.edition.specs.Edition.{fixedBits, ofEither, editionOf}
 use Rattle.profile.specs.Check.{judged}
 use Rattle.profile_choice.specs.declared.Choice.{Choice}
 use Rattle.profile_choice.specs.declared.Choice.the-variants.{User, Rescue, ImageLength, BothFail}
@@ -16,9 +16,9 @@ use Rattle.profile_choice.specs.declared.Choice.the-variants.{User, Resc
 abbrev pub startUpProfile : List ℕ → List ℕ
 startUpProfile image = take 0x20 (drop 0x10 image)
 
--- The image's start-up profile passes the check.
+-- The image's start-up profile passes the check of the edition that the image is of; that of an image of neither does not.
 unfoldable pub passing : List ℕ → Bool
-passing image = isPass (judged fixedBits (startUpProfile image))
+passing image = ofEither image && isPass (judged (fixedBits (editionOf image)) (startUpProfile image))
 
 -- Whose profile is chosen, or the number of the refusal.
 pub data Chosen : Type 0 where

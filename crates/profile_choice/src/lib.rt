@@ -1,11 +1,17 @@
-// The choice for a safe start (manual 11.5): the user's start-up profile where it passes the check, else the rescue image's.
+// The choice for a safe start (manual 11.5): the user's start-up profile where it passes the check, else the rescue image's. Each image is judged by its own
+// edition.
 //
 // An enum cannot hold a reference, so the answer stands in two functions over the same images: `choose` says whose profile it is or why
 // there is none, and `chosen` hands back that part of what was lent. A profile is always 32 bytes and a refusal the empty part.
 ghost use mathlib.Core.Path.{_≡_};
 ghost use lib.ListN.{length};
-ghost use Rattle.profile_choice.specs.Choice.{passing, chosenOf, partOf};
+ghost use Rattle.edition.specs.Edition.{fixedBits};
+ghost use Rattle.profile.specs.Answer.{isPass};
+ghost use Rattle.profile.specs.Check.{judged};
+ghost use Rattle.profile_choice.specs.Choice.{startUpProfile, passing, chosenOf, partOf};
 ghost use Rattle.profile_choice.specs.Choice.{chosen as Choice·chosen};
+use edition::Edition;
+use edition::is_of;
 use profile::Verdict;
 
 pub enum Choice {
@@ -17,16 +23,30 @@ pub enum Choice {
     BothFail,
 }
 
-// The image's bytes 010h-02Fh pass the check.
-fn passes(image: &[u8]) -> bool
+// The image's bytes 010h-02Fh pass the check of an edition.
+fn passes_as(edition: Edition, image: &[u8]) -> bool
     requires { ⌜ length (now image) ≡ 512 ⌝ }
-    ensures { λ r. ⌜ r ≡ passing (now (image .entry)) ⌝ }
+    ensures { λ r. ⌜ r ≡ isPass (judged (fixedBits edition) (startUpProfile (now (image .entry)))) ⌝ }
 {
-    let verdict = profile::check(&image[0x10..0x30]);
+    let verdict = profile::check(edition, &image[0x10..0x30]);
     match verdict {
         Verdict::Pass => true,
         Verdict::Refused(_) => false,
     }
+}
+
+// They pass that of the edition that the image is of; those of an image of neither do not.
+fn passes(image: &[u8]) -> bool
+    requires { ⌜ length (now image) ≡ 512 ⌝ }
+    ensures { λ r. ⌜ r ≡ passing (now (image .entry)) ⌝ }
+{
+    if is_of(Edition::Rc530, image) {
+        return passes_as(Edition::Rc530, image);
+    }
+    if is_of(Edition::Mfrc531, image) {
+        return passes_as(Edition::Mfrc531, image);
+    }
+    false
 }
 
 // Whose start-up profile is chosen, or the refusal.

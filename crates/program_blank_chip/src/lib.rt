@@ -1,7 +1,9 @@
-// A chip's memory before its first start, for programs that make a chip: every number is 0. A start does not look at it, so any would do.
+// What programs that make a chip begin with: a chip's memory before its first start, and an image to start it from.
 ghost use mathlib.Core.Path.{_≡_};
-ghost use Rattle.program_blank_chip.specs.Blank.{blankChip};
+ghost use Rattle.program_blank_chip.specs.Blank.{blankChip, blankImage};
 use state::Chip;
+
+// Every number is 0. A start does not look at the chip, so any would do.
 
 pub fn blank_chip() -> Chip
     ensures { λ r. ⌜ r ≡ blankChip ⌝ }
@@ -24,4 +26,16 @@ pub fn blank_chip() -> Chip
         key: key,
         eeprom: eeprom,
     }
+}
+
+// The MFRC531's product type, and zeros behind it.
+pub fn blank_image() -> [u8; 512]
+    ensures { λ r. ⌜ r ≡ blankImage ⌝ }
+{
+    let mut image = [0u8; 512];
+    image[0] = 0x30;
+    image[1] = 0xCC;
+    image[2] = 0xFF;
+    image[3] = 0x0F;
+    image
 }

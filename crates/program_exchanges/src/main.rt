@@ -1,17 +1,18 @@
 // A walk through checksums and frames, sent and received, as a table with a line for each step. `program_walkthrough` has the rest of the chip.
 use program_blank_chip::blank_chip;
+use program_blank_chip::blank_image;
 use program_steps::steps;
 use program_steps::table;
 use state::Chip;
 
-// A start from an image of zeros, and the settings that the frames go by, as the MFRC531 is shipped: the preset 6363h, WaterLevel 8, and a timer
+// A start from an image of zeros behind the product type, and the settings that the frames go by, as the MFRC531 is shipped: the preset 6363h, WaterLevel 8, and a timer
 // that a frame sent starts and a frame received stops.
 fn started() -> Chip {
-    let image = [0u8; 512];
+    let image = blank_image();
     let mut c = steps::start(
         blank_chip(),
         &image,
-        b"start from an image of zeros; KeyErr, as no key is loaded",
+        b"start from a blank image; KeyErr, as no key is loaded",
     );
     c = steps::set(c, 0x23, 0x63);
     c = steps::set(c, 0x24, 0x63);

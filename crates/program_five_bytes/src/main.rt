@@ -5,6 +5,7 @@
 // one advance, and with one clock less.
 use libc::STDOUT_FILENO;
 use program_blank_chip::blank_chip;
+use program_blank_chip::blank_image;
 use state::Chip;
 
 const COMMAND: u8 = 0x01;
@@ -17,9 +18,9 @@ const SECONDARY_STATUS: u8 = 0x05;
 
 const INTERRUPT_RQ: u8 = 0x07;
 
-// A chip that is started from an image of zeros.
+// A chip that is started from an image of zeros behind its product type.
 fn started() -> Chip {
-    let image = [0u8; 512];
+    let image = blank_image();
     let out = entry_by_value::start(blank_chip(), &image);
     let chip = out.chip;
     chip

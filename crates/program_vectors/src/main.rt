@@ -2,6 +2,7 @@
 //
 // The checksums are those of the catalogue of parametrised CRC algorithms over the bytes of "123456789"; the profile is the one that the
 // MFRC531 is shipped with (data sheet 005, Table 15).
+use edition::Edition;
 use libc::STDOUT_FILENO;
 use profile::Verdict;
 
@@ -52,7 +53,7 @@ fn show_checksum(name: &[u8], redundancy: u8, lsb: u8, msb: u8, digits: usize) {
 fn show_shipped() {
     let profile = SHIPPED;
     io::write_all(STDOUT_FILENO, b"shipped profile of the MFRC531: ");
-    match profile::check(&profile) {
+    match profile::check(Edition::Mfrc531, &profile) {
         Verdict::Pass => io::write_all(STDOUT_FILENO, b"pass\n"),
         Verdict::Refused(_) => io::write_all(STDOUT_FILENO, b"refused\n"),
     }

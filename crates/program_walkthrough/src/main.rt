@@ -1,8 +1,10 @@
-// A walk through the chip: FIFO, EEPROM, keys, timer and refusals, as a table with a line for each step. `program_exchanges` has checksums and frames.
+// A walk through the chip: starts, FIFO, EEPROM, keys, timer, refusals and the editions, as a table with a line for each step. `program_exchanges` has checksums and frames.
 use program_blank_chip::blank_chip;
+use program_blank_chip::blank_image;
 use program_steps::steps;
 use program_steps::table;
 use state::Chip;
+use state::EDITION;
 use state::PAGE;
 
 // Bytes from an address on. An index is kept inside the image by a remainder, so that every call is safe.
@@ -24,10 +26,10 @@ fn place_profile(image: &mut [u8; 512], at: usize) {
     place(image, start + 0x18, b"\x00\x08\x07\x06\x0A\x02\x00\x00");
 }
 
-// The EEPROM image that the chip starts from: the shipped profile at 010h, and at 030h with FIFOLevel 04h; A7h at 07Fh;
+// The EEPROM image that the chip starts from: the MFRC531's product type; the shipped profile at 010h, and at 030h with FIFOLevel 04h; A7h at 07Fh;
 // the key A0 A1 A2 A3 A4 A5 at 080h; 00h elsewhere.
 fn made() -> [u8; 512] {
-    let mut image = [0u8; 512];
+    let mut image = blank_image();
     place_profile(&mut image, 0x10);
     place_profile(&mut image, 0x30);
     place(&mut image, 0x49, b"\x04");
@@ -40,18 +42,39 @@ fn made() -> [u8; 512] {
     image
 }
 
-// Starts: only an image of 512 bytes is taken.
+// The same with other bytes at 001h-003h.
+fn made_as(second: u8, third: u8, fourth: u8) -> [u8; 512] {
+    let mut image = made();
+    image[1] = second;
+    image[2] = third;
+    image[3] = fourth;
+    image
+}
+
+// Starts: only an image of 512 bytes that begins with an edition's product type is taken.
 fn starts(image: &[u8; 512]) -> Chip {
     let short = [0u8; 511];
-    let blank = steps::start(
+    let mut c = steps::start(
         blank_chip(),
         &short,
-        b"start from an image of 511 bytes: refused",
+        b"start from 511 bytes 00h: refused for the length",
+    );
+    let zeros = [0u8; 512];
+    c = steps::start(
+        c,
+        &zeros,
+        b"start from 512 bytes 00h: refused, as they are no edition's",
+    );
+    let mixed = made_as(0x88, 0xFF, 0x0F);
+    c = steps::start(
+        c,
+        &mixed,
+        b"start from an image that begins with 30h 88h FFh 0Fh: refused",
     );
     steps::start(
-        blank,
+        c,
         image,
-        b"start from an image of 512 bytes; KeyErr, as no key is loaded",
+        b"start from an image of the MFRC531; KeyErr, as no key is loaded",
     )
 }
 
@@ -169,17 +192,45 @@ fn write_e2(chip: Chip) -> Chip {
 }
 
 // Calls that are refused in every state, and a chip that is malformed: bits 6-3 of Page always read 0.
-fn refused(chip: Chip, image: &[u8; 512]) {
+fn refused(chip: Chip, image: &[u8; 512]) -> Chip {
     let mut c = steps::read(chip, 64, b"read address 64: refused");
     c = steps::write(c, 64, 0x00, b"write address 64: refused");
     let mut bytes = c.state;
     bytes[PAGE] = 0x08;
     c.state = bytes;
     c = steps::read(c, 0x01, b"read Command of a malformed chip: refused");
-    steps::start(
+    steps::start(c, image, b"start of the malformed chip from the image")
+}
+
+// The product type that ReadE2 reads.
+fn product_type(chip: Chip) -> Chip {
+    let mut c = steps::command(chip, 0x03, b"\x00\x00\x04", b"ReadE2 of the product type");
+    c = steps::read(c, 0x02, b"read FIFOData");
+    c = steps::read(c, 0x02, b"read FIFOData");
+    c = steps::read(c, 0x02, b"read FIFOData");
+    steps::read(c, 0x02, b"read FIFOData")
+}
+
+// The MF RC530, from the same image with its product type; and a chip whose memory is not of its edition.
+fn editions(chip: Chip) {
+    let mut c = product_type(chip);
+    let other = made_as(0x88, 0xFE, 0x03);
+    c = steps::start(c, &other, b"start from an image of the MF RC530");
+    c = product_type(c);
+    let mut bytes = c.state;
+    bytes[EDITION] = 0;
+    c.state = bytes;
+    c = steps::read(
         c,
-        image,
-        b"start of the malformed chip from the image of 512 bytes",
+        0x01,
+        b"read Command of a chip whose memory is of the other edition: refused",
+    );
+    bytes[EDITION] = 2;
+    c.state = bytes;
+    steps::read(
+        c,
+        0x01,
+        b"read Command of a chip whose number is no edition's: refused",
     );
 }
 
@@ -193,5 +244,6 @@ fn main() {
     chip = keys(chip);
     chip = timer(chip);
     chip = write_e2(chip);
-    refused(chip, &image);
+    chip = refused(chip, &image);
+    editions(chip);
 }

@@ -8,13 +8,14 @@ use mathlib.Core.List.{List}
 use lib.Dec.{ltb, eqb}
 use lib.ListN.{length}
 use borrow.Author.Tests.{ltb-true, lt-ltb, le-ltb}
-use Rattle.machine.specs.WellFormed.{wellFormed, timerFormed, fifoFormed, commandFormed, nothingPends, checksumFormed, bitsFormed}
+use Rattle.edition.specs.Edition.{ofEither}
+use Rattle.machine.specs.WellFormed.{wellFormed, timerFormed, commandFormed, nothingPends, checksumFormed, bitsFormed}
 use Rattle.machine.specs.WellFormedness.{Formed}
 use Rattle.machine.specs.Refusals.{Call, start, hostRead, hostWrite, advance, takeFrame, deliver, refusal, refuseIf, frameFormed, ByteCall}
 use Rattle.machine.specs.Frames.{sending, receiving, frameWaits}
 use Rattle.machine.specs.Events.{Outcome, accepted, bufferOf}
 use Rattle.machine.proofs.Performing.{as-accepted}
-use Rattle.machine.proofs.WellFormed.Parts.{both, each}
+use Rattle.machine.proofs.WellFormed.Parts.{both, each, well-others}
 use Rattle.machine.proofs.WellFormed.Kept.{well-formedness}
 use Rattle.state.specs.View.{core, view, viewOf}
 use Rattle.state.specs.Formed.{fieldsFormed, chipFormed}
@@ -54,10 +55,11 @@ module _ (c : Chip) (call : Call) (next : Chip) (answer : ℕ) (buffer : List �
         record { sizes = done .sizes; sized = here .sized },
       )
 
--- A start judges the image's length alone.
-pub start-refusal : (c : Chip) (image : List ℕ) (t : Bool) → eqb (length image) 512 ≡ t → chipRefusal c (start image) ≡ refuseIf (not t) 2 0
+-- A start judges the image alone, its length and then whose it is.
+pub start-refusal : (c : Chip) (image : List ℕ) (t u : Bool) → eqb (length image) 512 ≡ t → ofEither image ≡ u →
+    chipRefusal c (start image) ≡ refuseIf (not t) 2 (refuseIf (not u) 22 0)
 unfolding chipRefusal refusal
-start-refusal c image t e = ap (λ (b : Bool). refuseIf (not b) 2 0) e
+start-refusal c image t u e o = λ i. refuseIf (not (e i)) 2 (refuseIf (not (o i)) 22 0)
 
 module _ (c : Chip) (formed : chipFormed c ≡ true) where
   -- The parts of being well formed.
@@ -88,8 +90,7 @@ module _ (c : Chip) (formed : chipFormed c ≡ true) where
   unfolding wellFormed viewOf
   last-bits-small =
       let m = view c in
-      let (fifo, h₁) = each (fifoFormed (m .held)) _ machine-well in
-      let (timed, h₂) = each (timerFormed (m .timer)) _ h₁ in
+      let (timed, h₂) = each (timerFormed (m .timer)) _ (well-others m machine-well) in
       let (commanded, h₃) = each (commandFormed (m .command)) _ h₂ in
       let (rests, h₄) = each (nothingPends (m .command) (m .held)) _ h₃ in
       let (summed, bits) = each (checksumFormed (m .checksum)) _ h₄ in below (core c .page) (core c .control) (core c .rxLastBits) bits

@@ -83,14 +83,14 @@ module _ (c : Chip) (formed : fieldsFormed c ≡ true) where
   pub next-near : ltb (core c .next) 0x200 ≡ true
   next-near = each (agree (ltb 0 (core c .left)) (writes (core c .stage) && batchFits (core c .next) (core c .latched))) _ (each (listed (core c .stage)) _ stage-agrees .1) .1
 
-  pub byte-agrees : (k : ℕ) → k < 9 → byteFormed k (at (c .state) k) ≡ true
-  byte-agrees k h = own-formed (at (c .state)) 9 k h bytes-agree
+  pub byte-agrees : (k : ℕ) → k < 12 → byteFormed k (at (c .state) k) ≡ true
+  byte-agrees k h = own-formed (at (c .state)) 12 k h bytes-agree
 
 -- A store to any byte but the stage and the latched count keeps the fields' agreement, where the new byte is formed.
 pub keeps-byte : (c : Chip) (k x : ℕ) → (eqb 10 k || eqb 12 k) ≡ false → (bytesFormed (at (c .state)) ≡ true → byteFormed k x ≡ true) → fieldsFormed c ≡ true →
     fieldsBy (coreBy (at (c .clocks)) (at (c .numbers)) (put k x (at (c .state)))) (put k x (at (c .state))) ≡ true
 keeps-byte c k x other fits formed =
-    let bytes = bytes-agree c formed in both (go (eqb 10 k) (eqb 12 k) other (stage-agrees c formed)) (put-formed (at (c .state)) k x 9 (fits bytes) bytes)
+    let bytes = bytes-agree c formed in both (go (eqb 10 k) (eqb 12 k) other (stage-agrees c formed)) (put-formed (at (c .state)) k x 12 (fits bytes) bytes)
   where
     go : (a b : Bool) → (a || b) ≡ false → stageFormed (core c .stage) (core c .latched) (core c .left) (core c .next) ≡ true →
         stageFormed (cond b x (core c .stage)) (cond a x (core c .latched)) (core c .left) (core c .next) ≡ true

@@ -6,6 +6,7 @@ use mathlib.Core.Bool.{Bool, true, cond, not, _&&_, _||_}
 use lib.Dec.{ltb, leb, eqb}
 use Rattle.bits.specs.Bits.{bit}
 use Rattle.bits.proofs.Below.{all}
+use Rattle.edition.specs.Edition.{isNumber}
 use Rattle.machine.specs.WellFormed.{wellFormed}
 use Rattle.state.specs.View.{Core, at, core, view, batchStart}
 use Rattle.state.specs.declared.Chip.{Chip}
@@ -48,7 +49,7 @@ abbrev pub isFlag : ℕ → Bool
 isFlag x = leb x 1
 
 -- What a register never shows as 1 is 0, of the bytes that a machine has as flags, by their index: key loaded, InterruptEn, InterruptRq, ErrorFlag and
--- TRunning.
+-- TRunning. And the edition's byte, 11, is the number of one.
 abbrev pub byteFormed : ℕ → ℕ → Bool
 byteFormed k x =
     cond (eqb k 2) (isFlag x)
@@ -56,10 +57,11 @@ byteFormed k x =
     (cond (eqb k 6) (ltb x 64)
     (cond (eqb k 7) (eqb (bit x 7 + (bit x 2 + bit x 0)) 0)
     (cond (eqb k 8) (isFlag x)
-    true))))
+    (cond (eqb k 11) (isNumber x)
+    true)))))
 
 abbrev pub bytesFormed : (ℕ → ℕ) → Bool
-bytesFormed byte = all (λ k. byteFormed k (byte k)) 9
+bytesFormed byte = all (λ k. byteFormed k (byte k)) 12
 
 abbrev pub fieldsBy : Core → (ℕ → ℕ) → Bool
 fieldsBy k byte = stageFormed (k .stage) (k .latched) (k .left) (k .next) && bytesFormed byte

@@ -14,6 +14,9 @@ clocksStateRegisters clocks state registers c = withClocks clocks (withState sta
 abbrev pub clocksNumbersState : List ℕ → List ℕ → List ℕ → Chip → Chip
 clocksNumbersState clocks numbers state c = withClocks clocks (withNumbers numbers (withState state c))
 
+abbrev pub clocksNumbersStateEeprom : List ℕ → List ℕ → List ℕ → List ℕ → Chip → Chip
+clocksNumbersStateEeprom clocks numbers state eeprom c = withClocks clocks (withNumbers numbers (withState state (withEeprom eeprom c)))
+
 abbrev pub stateRegisters : List ℕ → List ℕ → Chip → Chip
 stateRegisters state registers c = withState state (withRegisters registers c)
 
@@ -60,8 +63,9 @@ abbrev pub clocksNumbersStateSlotsLatchEeprom : List ℕ → List ℕ → List �
 clocksNumbersStateSlotsLatchEeprom clocks numbers state slots latch eeprom c =
     withClocks clocks (withNumbers numbers (withState state (withSlots slots (withLatch latch (withEeprom eeprom c)))))
 
-abbrev pub clocksNumbersStateRegistersSlots : List ℕ → List ℕ → List ℕ → List ℕ → List ℕ → Chip → Chip
-clocksNumbersStateRegistersSlots clocks numbers state registers slots c = withClocks clocks (withNumbers numbers (withState state (withRegisters registers (withSlots slots c))))
+abbrev pub clocksNumbersStateRegistersSlotsEeprom : List ℕ → List ℕ → List ℕ → List ℕ → List ℕ → List ℕ → Chip → Chip
+clocksNumbersStateRegistersSlotsEeprom clocks numbers state registers slots eeprom c =
+    withClocks clocks (withNumbers numbers (withState state (withRegisters registers (withSlots slots (withEeprom eeprom c)))))
 
 -- All eight.
 abbrev pub assembled : List ℕ → List ℕ → List ℕ → List ℕ → List ℕ → List ℕ → List ℕ → List ℕ → Chip

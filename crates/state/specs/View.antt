@@ -6,6 +6,7 @@ use mathlib.Core.List.{List, [], _∷_}
 use lib.Dec.{eqb}
 use lib.ListN.{getD, take}
 use Rattle.bits.specs.Bits.{bitSet}
+use Rattle.edition.specs.Edition.{numbered}
 use Rattle.machine.specs.State as m
 use Rattle.machine.specs.State.{Machine, Command, withRequests, withErrors}
 use Rattle.machine.specs.State.{Idle, WriteE2, ReadE2, LoadConfig, LoadKeyE2, LoadKey, CalcCRC, Transmit, Receive, TransceiveSending, TransceiveReceiving, addressing, ready, programming}
@@ -28,6 +29,7 @@ pub record Core : Type 0 where
   pub running : ℕ
   pub prescaler : ℕ
   pub latched : ℕ
+  pub edition : ℕ
   pub stage : ℕ
   pub read : ℕ
   pub write : ℕ
@@ -53,6 +55,7 @@ coreBy clock number byte =
       running = byte 8;
       prescaler = byte 9;
       latched = byte 10;
+      edition = byte 11;
       stage = byte 12;
       read = byte 13;
       write = byte 14;
@@ -137,6 +140,7 @@ viewOf k c =
       bitFraming = k .bitFraming;
       registers = c .registers;
       eeprom = c .eeprom;
+      edition = numbered (k .edition);
     }
 
 abbrev pub view : Chip → Machine

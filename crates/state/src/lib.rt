@@ -49,12 +49,14 @@ pub const REQUESTS: usize = 6;
 
 pub const ERRORS: usize = 7;
 
-// TRunning, the prescaler kept while the timer runs, and how many bytes WriteE2 has latched.
+// TRunning, the prescaler kept while the timer runs, how many bytes WriteE2 has latched, and the edition, by its number.
 pub const RUNNING: usize = 8;
 
 pub const PRESCALER: usize = 9;
 
 pub const LATCHED: usize = 10;
+
+pub const EDITION: usize = 11;
 
 // The active command and how far it is; the FIFO's read and write positions; TimerValue; BitFraming.
 pub const STAGE: usize = 12;

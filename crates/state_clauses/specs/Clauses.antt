@@ -2,7 +2,9 @@
 -- Assumes nothing.
 use Prim.Native.Nat.{ℕ}
 use mathlib.Core.Bool.{Bool, cond, _&&_}
+use mathlib.Core.List.{List}
 use lib.Dec.{ltb, leb, eqb}
+use Rattle.edition.specs.Edition.{isOf, isNumber, numbered}
 use Rattle.machine.specs.Memory.{programmingClocks}
 use Rattle.machine.specs.WellFormed.{timerFormed}
 use Rattle.state.specs.View.{isSet}
@@ -42,3 +44,7 @@ stageRoom s =
 -- While programming clocks are left, 64 may wait.
 abbrev pub roomOf : ℕ → ℕ → ℕ
 roomOf stage left = cond (eqb left 0) (stageRoom stage) 65
+
+-- The edition's byte, and the memory that is of that edition.
+abbrev pub editionFieldsFormed : ℕ → List ℕ → Bool
+editionFieldsFormed number eeprom = isNumber number && isOf (numbered number) eeprom

@@ -2,10 +2,27 @@
 //
 // That an element is a byte is known where it is passed by value, so each clause is a function of bytes by value.
 // Tests are joined by `&` and `|`: to a proof these are the specification's own `&&` and `||`.
+ghost use Prim.Native.Nat.{_+_, _*_, _^_};
 ghost use mathlib.Core.Path.{_≡_};
+ghost use mathlib.Core.List.{[], _∷_};
 ghost use Rattle.machine.specs.WellFormed.{checksumFormed, bitsFormed};
-ghost use Rattle.state_clauses.specs.Clauses.{flagsFormed, timerFieldsFormed, programmingFormed, roomOf};
+ghost use Rattle.state_clauses.specs.Clauses.{flagsFormed, timerFieldsFormed, programmingFormed, roomOf, editionFieldsFormed};
+use edition::MFRC531;
+use edition::RC530;
 use state_timer::period;
+
+// Two numbers as one of twice the width.
+pub fn pair(high: u8, low: u8) -> u16
+    ensures { λ r. ⌜ r ≡ high * 2 ^ 8 + low ⌝ }
+{
+    high as u16 * 0x100 + low as u16
+}
+
+pub fn quad(high: u16, low: u16) -> u32
+    ensures { λ r. ⌜ r ≡ high * 2 ^ 16 + low ⌝ }
+{
+    high as u32 * 0x1_0000 + low as u32
+}
 
 // ErrorFlag, InterruptRq, InterruptEn and the key's flag have 0 where they always read 0: each byte has none of a mask's bits.
 pub fn flags_formed(loaded: u8, enables: u8, requests: u8, errors: u8) -> bool
@@ -71,4 +88,15 @@ pub fn timer_formed(running: u8, value: u8, prescaler: u8, phase: u32) -> bool
 {
     let kept = prescaler as u16 <= 21 * running as u16;
     (running <= 1) & (kept & ((running <= value) & (phase < period(prescaler))))
+}
+
+// The first four bytes of the memory are the product type of the edition that a number stands for. The four are one word, low byte first.
+pub fn edition_formed(number: u8, a: u8, b: u8, c: u8, d: u8) -> bool
+    ensures { λ r. ⌜ r ≡ editionFieldsFormed number (a ∷ b ∷ c ∷ d ∷ []) ⌝ }
+{
+    let word = quad(pair(d, c), pair(b, a));
+    if number == MFRC531 {
+        return word == 0x0FFF_CC30;
+    }
+    (number == RC530) & (word == 0x03FE_8830)
 }

@@ -3,13 +3,14 @@
 use Prim.Native.Nat.{ℕ, _+_, _%_}
 use native.Mathlib.Omega.{arith}
 use mathlib.Core.Path.{_≡_, refl, sym, ap, _∙_}
-use mathlib.Core.Bool.{Bool, true, false, cond, not, and-true, and-comm, and-assoc, false≢true, _&&_}
+use mathlib.Core.Bool.{Bool, true, false, cond, not, and-true, and-comm, and-assoc, false≢true, _&&_, _||_}
 use mathlib.Core.List.{List}
 use lib.Dec.{ltb, leb, eqb}
 use lib.ListN.{length, take}
 use lib.Seq.{length-take-le}
 use borrow.Author.Tests.{lt-ltb, le-ltb, leb-true, eqb-true, eqb-false, le-leb, not-true}
 use Rattle.crc.specs.Checksum.{CRC8}
+use Rattle.edition.specs.Edition.{isOf, isNumber}
 use Rattle.machine.specs.State.{Writing, addressing, ready, programming}
 use Rattle.machine.specs.Memory.{programmingClocks}
 use Rattle.machine.specs.WellFormed.{wellFormed, timerFormed, writingFormed, commandFormed, checksumFormed, bitsFormed, waits}
@@ -21,7 +22,7 @@ use Rattle.state.specs.Turns.{Sizes}
 use Rattle.state.specs.declared.Chip.{Chip}
 use Rattle.state.proofs.RingLaws.{held-length}
 use Rattle.state.proofs.StageLaws.{Other, by-stage}
-use Rattle.state_clauses.specs.Clauses.{flagsFormed, timerFieldsFormed, programmingFormed, stageRoom, roomOf}
+use Rattle.state_clauses.specs.Clauses.{flagsFormed, timerFieldsFormed, programmingFormed, stageRoom, roomOf, editionFieldsFormed}
 use Rattle.state_clauses.proofs.ByteLaws.{joined-if, and-left-comm, below, waiting}
 use Rattle.state_formed.specs.Judged.{firstClear, restsWith, usual}
 
@@ -102,14 +103,17 @@ module _ (k : Core) (latch : List ℕ) where
         rests-with (λ some. programs-with some (each (writes (k .stage)) _ (some-due (k .left) _ agrees some) .0))
 
 -- All clauses in the code's order.
-reordered : (l w f8 f7 f6 f4 f2 q t m p k z : Bool) →
-    (((l && w) && (f8 && (f7 && (f6 && (f4 && (f2 && true)))))) && (q && (t && (m && (p && (k && z))))))
-    ≡ ((f7 && (f6 && (f4 && f2))) && (z && ((f8 && t) && (k && ((w && m) && (l && (q && p)))))))
-reordered l w f8 f7 f6 f4 f2 q t m p k z = simp (and-true, and-assoc, and-comm, and-left-comm)
+reordered : (i l w f11 f8 f7 f6 f4 f2 q t m p k z : Bool) →
+    (((l && w) && (f11 && (f8 && (f7 && (f6 && (f4 && (f2 && true))))))) && (i && (q && (t && (m && (p && (k && z)))))))
+    ≡ ((f7 && (f6 && (f4 && f2))) && (z && ((f8 && t) && (k && (((w && m) && (l && (q && p))) && (f11 && i))))))
+reordered i l w f11 f8 f7 f6 f4 f2 q t m p k z = simp (and-true, and-assoc, and-comm, and-left-comm)
 
-in-order : (l w f8 f7 f6 f4 f2 q t m p k z : Bool) {rest : Bool} → ((w && m) && (l && (q && p))) ≡ rest →
-    (((l && w) && (f8 && (f7 && (f6 && (f4 && (f2 && true)))))) && (q && (t && (m && (p && (k && z)))))) ≡ ((f7 && (f6 && (f4 && f2))) && (z && ((f8 && t) && (k && rest))))
-in-order l w f8 f7 f6 f4 f2 q t m p k z e = reordered l w f8 f7 f6 f4 f2 q t m p k z ∙ ap (λ (b : Bool). (f7 && (f6 && (f4 && f2))) && (z && ((f8 && t) && (k && b)))) e
+in-order : (i l w f11 f8 f7 f6 f4 f2 q t m p k z : Bool) (a b : Bool) → ((w && m) && (l && (q && p))) ≡ (a && b) →
+    (((l && w) && (f11 && (f8 && (f7 && (f6 && (f4 && (f2 && true))))))) && (i && (q && (t && (m && (p && (k && z)))))))
+    ≡ ((f7 && (f6 && (f4 && f2))) && (z && ((f8 && t) && (k && (a && (b && (f11 && i)))))))
+in-order i l w f11 f8 f7 f6 f4 f2 q t m p k z a b e =
+    reordered i l w f11 f8 f7 f6 f4 f2 q t m p k z
+    ∙ ap (λ (x : Bool). (f7 && (f6 && (f4 && f2))) && (z && ((f8 && t) && (k && x)))) (ap (λ (x : Bool). x && (f11 && i)) e ∙ and-assoc a b (f11 && i))
 
 pub clauses : (c : Chip) → length (c .latch) ≡ 16 →
     let k = core c in
@@ -119,7 +123,8 @@ pub clauses : (c : Chip) → length (c .latch) ≡ 16 →
     && (timerFieldsFormed (k .running) (k .value) (k .prescaler) (k .phase)
     && (checksumFormed (record { register = k .crcRegister; mode = k .crcMode })
     && (programmingFormed (k .stage) (k .latched) (k .left) (k .next)
-    && ltb (heldCount (k .read) (k .write)) (roomOf (k .stage) (k .left)))))))
+    && (ltb (heldCount (k .read) (k .write)) (roomOf (k .stage) (k .left))
+    && editionFieldsFormed (k .edition) (c .eeprom)))))))
 unfolding chipFormed fieldsFormed wellFormed viewOf
 clauses c sixteen =
     let k = core c in
@@ -127,8 +132,9 @@ clauses c sixteen =
     let n = length (heldOf (k .read) (k .write) (c .slots)) in
     let clocked = agree (ltb 0 (k .left)) (writes (k .stage) && batchFits (k .next) (k .latched)) in
     let near = ltb (k .next) 0x200 in
-    in-order (listed (k .stage)) (clocked && near) (isFlag (k .running)) (byteFormed 7 (k .errors)) (byteFormed 6 (k .requests)) (byteFormed 4 (k .enables)) (byteFormed 2 (k .keyLoaded))
+    in-order (isOf (m .edition) (m .eeprom)) (listed (k .stage)) (clocked && near) (isNumber (k .edition)) (isFlag (k .running)) (byteFormed 7 (k .errors)) (byteFormed 6 (k .requests)) (byteFormed 4 (k .enables)) (byteFormed 2 (k .keyLoaded))
     (leb n 64) (timerFormed (m .timer)) (commandFormed (m .command)) (leb n (waits (m .command))) (checksumFormed (m .checksum)) (bitsFormed (k .page) (k .control) (k .rxLastBits))
+    (programmingFormed (k .stage) (k .latched) (k .left) (k .next)) (ltb (heldCount (k .read) (k .write)) (roomOf (k .stage) (k .left)))
     (joined-if _ (programmingFormed (k .stage) (k .latched) (k .left) (k .next)) _
     (joined-if (commandFormed (m .command)) (clocked && near) (leb (k .left) programmingClocks) refl (λ h. command-judged k (c .latch) sixteen (each clocked near h .0))
     ∙ and-comm (clocked && near) (leb (k .left) programmingClocks))
@@ -148,9 +154,9 @@ stage-rests stage n = by-cond (λ (t : Bool). t ≡ true → (writes stage ≡ f
         let s = eqb-true stage 0x12 at-sum in
         (ap writes s, ap (λ (j : ℕ). ltb n (stageRoom j)) s ∙ ap (λ (j : ℕ). ltb j 1) (eqb-true n 0 none))
 
--- A state that a host meets most of the time is well formed.
-pub usual-formed : (c : Chip) → Sizes c → usual (core c) ≡ true → chipFormed c ≡ true
-usual-formed c sizes is =
+-- A state that a host meets most of the time, with a memory of the chip's edition, is well formed.
+usual-formed : (c : Chip) → Sizes c → usual (core c) ≡ true → editionFieldsFormed (core c .edition) (c .eeprom) ≡ true → chipFormed c ≡ true
+usual-formed c sizes is typed =
     let k = core c in
     let n = heldCount (k .read) (k .write) in
     let first = firstClear (k .page) (k .control) (k .keyLoaded) (k .rxLastBits) (k .enables) (k .crcMode) (k .requests) (k .errors) in
@@ -170,4 +176,14 @@ usual-formed c sizes is =
     (both
     (ap (λ (j : ℕ). leb j programmingClocks && (agree (ltb 0 j) (writes (k .stage) && batchFits (k .next) (k .latched)) && ltb (k .next) 0x200)) none
     ∙ both (ap (λ (b : Bool). not (b && batchFits (k .next) (k .latched))) other) near)
-    (ap (λ (j : ℕ). ltb n (roomOf (k .stage) j)) none ∙ room)))))
+    (both (ap (λ (j : ℕ). ltb n (roomOf (k .stage) j)) none ∙ room) typed)))))
+
+-- So it is where neither of the two tests fails.
+pub quickly-formed : (c : Chip) → Sizes c → {quick typed : Bool} → quick ≡ usual (core c) → typed ≡ editionFieldsFormed (core c .edition) (c .eeprom) →
+    (not quick || not typed) ≡ false → chipFormed c ≡ true
+quickly-formed c sizes {quick} {typed} q t passed = go quick typed q t passed
+  where
+    go : (a b : Bool) → a ≡ usual (core c) → b ≡ editionFieldsFormed (core c .edition) (c .eeprom) → (not a || not b) ≡ false → chipFormed c ≡ true
+    go true true p r h = usual-formed c sizes (sym p) (sym r)
+    go true false p r h = absurd (false≢true (sym h))
+    go false b p r h = absurd (false≢true (sym h))

@@ -30,8 +30,8 @@ firstClear page control loaded last enables mode requests errors =
 abbrev pub restsWith : ℕ → ℕ → Bool
 restsWith stage count = cond (eqb stage 0x00) (leb count 64) (eqb stage 0x12 && eqb count 0)
 
--- The states that a host meets most of the time: every bit of the first eight bytes that always reads 0 is 0 and CRC8 is 0, no programming clocks are
--- left, the next address is below 200h, Idle holds at most 64 bytes or CalcCRC none, and the timer is formed.
+-- The states that a host meets most of the time, but for the edition: every bit of the first eight bytes that always reads 0 is 0 and CRC8 is 0, no programming
+-- clocks are left, the next address is below 200h, Idle holds at most 64 bytes or CalcCRC none, and the timer is formed.
 abbrev pub usual : Core → Bool
 usual k =
     (firstClear (k .page) (k .control) (k .keyLoaded) (k .rxLastBits) (k .enables) (k .crcMode) (k .requests) (k .errors) && eqb (k .left) 0)

@@ -1,20 +1,23 @@
-// Whether a chip is well formed: refusal 7, manual 10.3. Clocks, numbers and bytes of state decide it; the other arrays have their sizes by their types.
+// Whether a chip is well formed: refusal 7, manual 10.3. Clocks, numbers, bytes of state and the first four of the memory decide it; the other arrays have their
+// sizes by their types.
 //
-// Every call of the chip judges it first. `quick` passes the states that a host meets most of the time, by a few tests; `formed` judges every clause.
-// A host access and a clock advance ask `quick` themselves, and `formed` where that does not pass: a function of both would be too long for the compiler
-// to put into them, and would save registers at each call.
+// Every call of the chip judges it first. `quick` and `of_own_edition` pass the states that a host meets most of the time, by a few tests; `formed` judges every
+// clause. A host access and a clock advance ask the two themselves, and `formed` where they do not pass: a function of these would be too long for the
+// compiler to put into them, and would save registers at each call.
 //
 // The clauses are functions of `state_clauses`. Tests are joined by `&`: to a proof this is the specification's own `&&`.
 ghost use Prim.Native.Nat.{_+_, _*_, _^_};
 ghost use mathlib.Core.Bool.{_&&_};
 ghost use mathlib.Core.Path.{_≡_};
 ghost use lib.Dec.{eqb};
-ghost use Rattle.state.specs.Lent.{clocksNumbersState};
-ghost use Rattle.state_clauses.specs.Clauses.{timerFieldsFormed};
+ghost use Rattle.state.specs.View.{at};
+ghost use Rattle.state.specs.Lent.{clocksNumbersState, clocksNumbersStateEeprom};
+ghost use Rattle.state_clauses.specs.Clauses.{timerFieldsFormed, editionFieldsFormed};
 ghost use Rattle.state_formed.specs.Judged.{ReadsFields, Judges, firstClear, restsWith, usual};
 use state::CONTROL;
 use state::CRC_MODE;
 use state::CRC_REGISTER;
+use state::EDITION;
 use state::ENABLES;
 use state::ERRORS;
 use state::KEY_LOADED;
@@ -32,24 +35,15 @@ use state::VALUE;
 use state::held;
 use state_clauses::bits_formed;
 use state_clauses::checksum_formed;
+use state_clauses::edition_formed;
 use state_clauses::flags_formed;
+use state_clauses::pair;
+use state_clauses::quad;
 use state_clauses::room;
 use state_clauses::timer_formed;
 use state_clauses::writing_formed;
 
 // Two numbers as one of twice the width.
-fn pair(high: u8, low: u8) -> u16
-    ensures { λ r. ⌜ r ≡ high * 2 ^ 8 + low ⌝ }
-{
-    high as u16 * 0x100 + low as u16
-}
-
-fn quad(high: u16, low: u16) -> u32
-    ensures { λ r. ⌜ r ≡ high * 2 ^ 16 + low ⌝ }
-{
-    high as u32 * 0x1_0000 + low as u32
-}
-
 fn eight(high: u32, low: u32) -> u64
     ensures { λ r. ⌜ r ≡ high * 2 ^ 32 + low ⌝ }
 {
@@ -92,7 +86,15 @@ fn timer_kept(running: u8, value: u8, prescaler: u8, phase: u32) -> bool
     timer_formed(running, value, prescaler, phase)
 }
 
-// The states that a host meets most of the time: Idle or CalcCRC rests, nothing is programmed, every bit that always reads 0 is 0, and CRC8 is 0.
+// The memory is of the chip's edition.
+pub fn of_own_edition(state: &[u8; 24], eeprom: &[u8; 512]) -> bool
+    ensures { λ r. ⌜ r ≡ editionFieldsFormed (at (now (state .entry)) 11) (now (eeprom .entry)) ⌝ }
+{
+    edition_formed(state[EDITION], eeprom[0], eeprom[1], eeprom[2], eeprom[3])
+}
+
+// The states that a host meets most of the time, but for the edition: Idle or CalcCRC rests, nothing is programmed, every bit that always reads 0 is 0, and CRC8
+// is 0.
 pub fn quick(clocks: &[u32; 2], numbers: &[u16; 6], state: &[u8; 24]) -> bool
     ensures { λ r.
         let lent = clocksNumbersState (now (clocks .entry)) (now (numbers .entry)) (now (state .entry)) in
@@ -126,9 +128,9 @@ pub fn quick(clocks: &[u32; 2], numbers: &[u16; 6], state: &[u8; 24]) -> bool
 }
 
 // Every clause.
-pub fn formed(clocks: &[u32; 2], numbers: &[u16; 6], state: &[u8; 24]) -> bool
+pub fn formed(clocks: &[u32; 2], numbers: &[u16; 6], state: &[u8; 24], eeprom: &[u8; 512]) -> bool
     ensures { λ r.
-        let lent = clocksNumbersState (now (clocks .entry)) (now (numbers .entry)) (now (state .entry)) in
+        let lent = clocksNumbersStateEeprom (now (clocks .entry)) (now (numbers .entry)) (now (state .entry)) (now (eeprom .entry)) in
         ⌜ Judges lent r ⌝ }
 {
     let flags = flags_formed(
@@ -147,5 +149,6 @@ pub fn formed(clocks: &[u32; 2], numbers: &[u16; 6], state: &[u8; 24]) -> bool
     let checksum = checksum_formed(numbers[CRC_REGISTER], state[CRC_MODE]);
     let writing = writing_formed(state[STAGE], state[LATCHED], clocks[LEFT], numbers[NEXT]);
     let fits = held(state) < room(state[STAGE], clocks[LEFT]);
-    flags & (bits & (timer & (checksum & (writing & fits))))
+    let edition = of_own_edition(state, eeprom);
+    flags & (bits & (timer & (checksum & (writing & (fits & edition)))))
 }

@@ -1,11 +1,11 @@
 //! Chips that are built field by field, well formed or not. The library gives refusal 7 exactly where the clauses of manual 10.3 do, as
 //! `chip_memory::plain_of` has them; 7 goes before every other refusal, and a refused call leaves every byte of the chip. From well-formed
-//! ones calls are made on both chips.
+//! ones calls are made on both chips. All of this for both editions.
 
 use crate::call::{Call, Fill, Image};
 use crate::chip_memory::{field, plain_of, Memory, ARRAYS, SIZE};
 use crate::library;
-use crate::plain::PROGRAMMING_CLOCKS;
+use crate::plain::{Edition, PROGRAMMING_CLOCKS};
 use crate::random::Random;
 use crate::registers::PRIMARY_STATUS;
 use crate::session::Session;
@@ -28,10 +28,15 @@ fn latched() -> impl Iterator<Item = u8> {
     (0..=18).chain([31, 32, 33, 48, 128, 240, 255])
 }
 
+/// The image that built chips of an edition begin with.
+fn image(edition: Edition) -> Image {
+    Image::whole(Fill::Keys, 7, edition)
+}
+
 /// A started chip's memory, with bytes in every array.
-pub fn started() -> Memory {
+pub fn started(edition: Edition) -> Memory {
     let mut memory = Memory([0; SIZE]);
-    let image = Image { fill: Fill::Keys, seed: 7, length: 512 }.bytes();
+    let image = image(edition).bytes();
     // SAFETY: the chip is whole, and the image has its length.
     unsafe { library::mfrc531_start(memory.as_mut_ptr(), image.as_ptr(), image.len()) };
     (0..64).for_each(|place| memory.chip_mut().slots[place] = place as u8 | 0x80);
@@ -48,8 +53,87 @@ fn with(base: &Memory, stage: u8, latched: u8, left: u32, next: u16, read: u8, h
     memory
 }
 
+// ---- The edition -----------------------------------------------------------------------------------------------------------------------
+
+/// What arithmetic makes of a number where it makes the editions' type bytes of 0 and 1: as one number, low byte first, in equal steps.
+pub fn type_by_arithmetic(number: u8) -> [u8; 4] {
+    let [first, second] = Edition::BOTH.map(|edition| u32::from_le_bytes(edition.type_bytes()));
+    first.wrapping_add(second.wrapping_sub(first).wrapping_mul(number.into())).to_le_bytes()
+}
+
+/// The edition's type bytes, and such as are nearly those: one byte with every value, one or two bits changed, bytes of both editions, the bytes in
+/// every order, and two bytes changed so that their sum stays.
+pub fn near_types(edition: Edition) -> Vec<[u8; 4]> {
+    let own = edition.type_bytes();
+    let changed = |change: &dyn Fn(&mut [u8; 4])| {
+        let mut bytes = own;
+        change(&mut bytes);
+        bytes
+    };
+    let mut types = Vec::new();
+    for place in 0..4 {
+        types.extend((0..=255).map(|byte| changed(&|bytes| bytes[place] = byte)));
+    }
+    for one in 0..32 {
+        for other in 0..=one {
+            types.push(changed(&|bytes| {
+                bytes[one / 8] ^= 1 << (one % 8);
+                bytes[other / 8] ^= u8::from(one != other) << (other % 8);
+            }));
+        }
+    }
+    for choice in 0..16usize {
+        types.push(std::array::from_fn(|place| Edition::BOTH[choice >> place & 1].type_bytes()[place]));
+    }
+    for order in 0..256usize {
+        let places: [usize; 4] = std::array::from_fn(|place| order >> (2 * place) & 3);
+        if (0..4).all(|place| places.contains(&place)) {
+            types.push(places.map(|place| own[place]));
+        }
+    }
+    for one in 0..4 {
+        for other in (0..4).filter(|other| *other != one) {
+            types.push(changed(&|bytes| {
+                bytes[one] = bytes[one].wrapping_add(1);
+                bytes[other] = bytes[other].wrapping_sub(1);
+            }));
+        }
+    }
+    types
+}
+
+/// Type bytes to be judged with a number: those of both editions, none's, and what could be taken for those of a number above 1.
+fn types_for(number: u8) -> [[u8; 4]; 10] {
+    let [first, second] = Edition::BOTH.map(Edition::type_bytes);
+    let each = |of: &dyn Fn(u8, u8) -> u8| std::array::from_fn(|place| of(first[place], second[place]));
+    [
+        first,
+        second,
+        [0; 4],
+        [0xFF; 4],
+        [number; 4],
+        [number, 0, 0, 0],
+        type_by_arithmetic(number),
+        each(&|first, second| first.wrapping_add(second.wrapping_sub(first).wrapping_mul(number))),
+        each(&|first, second| first ^ (first ^ second).wrapping_mul(number)),
+        each(&|first, second| first ^ (first ^ second) & number),
+    ]
+}
+
+/// The edition's number and the type bytes.
+fn with_edition(base: &Memory, number: u8, type_bytes: [u8; 4]) -> Memory {
+    let mut memory = *base;
+    let chip = memory.chip_mut();
+    chip.edition = number;
+    chip.eeprom[..4].copy_from_slice(&type_bytes);
+    memory
+}
+
+// ---- The judging -----------------------------------------------------------------------------------------------------------------------
+
 /// Judges states one by one, and counts them.
 struct Judge<const FAULT: u8> {
+    edition: Edition,
     base: Memory,
     states: u64,
 }
@@ -91,18 +175,22 @@ impl<const FAULT: u8> Judge<FAULT> {
         Ok(())
     }
 
-    /// The state as a line of a list, for a started chip.
+    /// The state as two lines of a list.
     fn line(&self, memory: &Memory) -> String {
         let differs = |place: &usize| memory.0[*place] != self.base.0[*place];
         let edits = (0..SIZE).filter(differs).map(|place| (place as u16, memory.0[place])).collect();
-        Call::Corrupt { edits }.to_string()
+        format!("{}, {}", Call::Start { image: image(self.edition) }, Call::Corrupt { edits })
     }
 }
 
-/// Refusal 7, on every state that is built. Answers how many those were.
+/// Refusal 7, on every state that is built, of both editions. Answers how many those were.
 pub fn judged<const FAULT: u8>(seed: u64) -> Result<u64, String> {
-    let base = started();
-    let mut judge = Judge::<FAULT> { base, states: 0 };
+    Ok(judged_of::<FAULT>(Edition::Mfrc531, seed)? + judged_of::<FAULT>(Edition::MfRc530, seed)?)
+}
+
+fn judged_of<const FAULT: u8>(edition: Edition, seed: u64) -> Result<u64, String> {
+    let base = started(edition);
+    let mut judge = Judge::<FAULT> { edition, base, states: 0 };
 
     // Stage, latched count, clocks left, next address and held bytes: every combination for the stages of commands and for their neighbours.
     let close = [0x81, 0xC1, 0x40, 0x80, 0x52, 0x92, 0x1A, 0x16, 0x1E];
@@ -199,6 +287,30 @@ pub fn judged<const FAULT: u8>(seed: u64) -> Result<u64, String> {
             }
         }
     }
+    // The edition: every number with type bytes that could be taken for its own, and nearly right ones with some numbers.
+    for chip in &chips[..3] {
+        for number in 0..=255 {
+            for type_bytes in types_for(number) {
+                judge.judge(with_edition(chip, number, type_bytes))?;
+            }
+        }
+        for type_bytes in near_types(edition) {
+            for number in [0, 1, 2, 3, 128, 255] {
+                judge.judge(with_edition(chip, number, type_bytes))?;
+            }
+        }
+    }
+    // No other byte of the EEPROM is judged: the version with every value, and each with another.
+    for byte in 0..=255 {
+        let mut memory = base;
+        memory.chip_mut().eeprom[4] = byte;
+        judge.judge(memory)?;
+    }
+    for place in 4..512 {
+        let mut memory = base;
+        memory.chip_mut().eeprom[place] ^= 0xFF;
+        judge.judge(memory)?;
+    }
     // Several fields at once.
     let mut random = Random::new(seed);
     for _ in 0..200_000 {
@@ -236,10 +348,14 @@ fn some_chips(base: &Memory) -> Vec<Memory> {
     chips
 }
 
-/// Calls on both chips, from states that are well formed: WriteE2 with and without a batch, and latched counts that other commands have left.
-/// Answers how many calls those were.
+/// Calls on both chips, from states of both editions that are well formed: WriteE2 with and without a batch, and latched counts that other commands
+/// have left. Answers how many calls those were.
 pub fn worked<const FAULT: u8>() -> Result<u64, String> {
-    let base = started();
+    Ok(worked_of::<FAULT>(Edition::Mfrc531)? + worked_of::<FAULT>(Edition::MfRc530)?)
+}
+
+fn worked_of<const FAULT: u8>(edition: Edition) -> Result<u64, String> {
+    let base = started(edition);
     let calls = [
         Call::Advance { clocks: 1 },
         Call::Advance { clocks: 65_535 },
@@ -272,7 +388,7 @@ pub fn worked<const FAULT: u8>() -> Result<u64, String> {
                             // The call, and then a poll and clocks on what it has left.
                             for call in [call, &Call::Read { address: PRIMARY_STATUS }, &Call::Advance { clocks: 2 }] {
                                 session.perform(call).map_err(|difference| {
-                                    let judge = Judge::<FAULT> { base, states: 0 };
+                                    let judge = Judge::<FAULT> { edition, base, states: 0 };
                                     format!("{call} after {}: {difference}", judge.line(&memory))
                                 })?;
                             }

@@ -1,7 +1,7 @@
 //! A call as the lists have it, in a form that a person can read, write and repeat.
 
 use crate::chip_memory::{place_name, places_of, Memory, SIZE};
-use crate::plain::stored_nibble;
+use crate::plain::{stored_nibble, Edition};
 use crate::random::Random;
 use std::fmt;
 
@@ -22,6 +22,8 @@ pub struct Image {
     pub fill: Fill,
     pub seed: u64,
     pub length: usize,
+    /// Bytes 000h-003h. A list need not say them where they are the MFRC531's.
+    pub type_bytes: [u8; 4],
 }
 
 /// The start-up profile that 005 prints in its Table 15.
@@ -53,6 +55,11 @@ pub fn lively(register: u8, random: &mut Random) -> u8 {
 }
 
 impl Image {
+    /// An image of 512 bytes.
+    pub fn whole(fill: Fill, seed: u64, edition: Edition) -> Self {
+        Image { fill, seed, length: 512, type_bytes: edition.type_bytes() }
+    }
+
     pub fn bytes(&self) -> Vec<u8> {
         let mut random = Random::new(self.seed);
         let mut bytes = random.bytes(self.length.max(512));
@@ -72,9 +79,33 @@ impl Image {
                 }
             }
         }
+        bytes[..4].copy_from_slice(&self.type_bytes);
         bytes.truncate(self.length);
         bytes
     }
+}
+
+/// Type bytes for an image: mostly those of either edition, and else as `near_type` has them.
+pub fn some_type(random: &mut Random) -> [u8; 4] {
+    if random.one_in(6) {
+        near_type(random)
+    } else {
+        random.of(&Edition::BOTH).type_bytes()
+    }
+}
+
+/// Type bytes of neither edition, but for a few: zeros, those of one with a byte or a bit changed, bytes of both, any.
+pub fn near_type(random: &mut Random) -> [u8; 4] {
+    let mut bytes = random.of(&Edition::BOTH).type_bytes();
+    let place = random.below(4) as usize;
+    match random.below(5) {
+        0 => bytes = [0; 4],
+        1 => bytes[place] = random.byte(),
+        2 => bytes[place] ^= 1 << random.below(8),
+        3 => bytes = std::array::from_fn(|place| random.of(&Edition::BOTH).type_bytes()[place]),
+        _ => bytes.fill_with(|| random.byte()),
+    }
+    bytes
 }
 
 /// A step of a list: one of the six events, or a change of the library's memory from outside.
@@ -120,7 +151,11 @@ impl fmt::Display for Call {
                     Fill::Shipped => "shipped",
                     Fill::Keys => "keys",
                 };
-                write!(out, "start {fill} {:X} {}", image.seed, image.length)
+                write!(out, "start {fill} {:X} {}", image.seed, image.length)?;
+                if image.type_bytes != Edition::Mfrc531.type_bytes() {
+                    write!(out, " {}", Hex(&image.type_bytes))?;
+                }
+                Ok(())
             }
             Call::Read { address } => write!(out, "read {address:02X}"),
             Call::Write { address, byte } => write!(out, "write {address:02X} {byte:02X}"),
@@ -195,14 +230,19 @@ fn parse_line(words: &[&str], list: &mut List) -> Option<()> {
             list.memory = u64::from_str_radix(seed, 16).ok()?;
             return Some(());
         }
-        ["start", fill, seed, length] => {
+        ["start", fill, seed, length, rest @ ..] => {
             let fill = match *fill {
                 "noise" => Fill::Noise,
                 "shipped" => Fill::Shipped,
                 "keys" => Fill::Keys,
                 _ => return None,
             };
-            Call::Start { image: Image { fill, seed: u64::from_str_radix(seed, 16).ok()?, length: length.parse().ok()? } }
+            let type_bytes = match rest {
+                [] => Edition::Mfrc531.type_bytes(),
+                [bytes] => parse_hex(bytes)?.try_into().ok()?,
+                _ => return None,
+            };
+            Call::Start { image: Image { fill, seed: u64::from_str_radix(seed, 16).ok()?, length: length.parse().ok()?, type_bytes } }
         }
         ["read", address] => Call::Read { address: byte(address)? },
         ["write", address, value] => Call::Write { address: byte(address)?, byte: byte(value)? },

@@ -1,7 +1,7 @@
 //! The library's chip as it lies in memory (`include/mfrc531.h`): its layout, which memory is no chip's state (refusal 7), the plain chip of
 //! a memory, and the comparison of the two.
 
-use crate::plain::{error, fault, request, Checksum, Command, FaultyChip, Fifo, Run, Timer, Writing, PROGRAMMING_CLOCKS};
+use crate::plain::{error, fault, request, Checksum, Command, Edition, FaultyChip, Fifo, Run, Timer, Writing, PROGRAMMING_CLOCKS};
 use std::mem::{align_of, offset_of, size_of};
 
 /// The chip in memory, and its fields by name, with the place and the length of each. The places are asserted.
@@ -39,7 +39,7 @@ layout! {
     28 timer_running: u8,
     29 timer_prescaler: u8,
     30 latched: u8,
-    31 reserved_11: u8,
+    31 edition: u8,
     32 stage: u8,
     33 fifo_read: u8,
     34 fifo_write: u8,
@@ -56,7 +56,7 @@ layout! {
 /// Bytes of a chip.
 pub const SIZE: usize = 676;
 
-/// Where the arrays of bytes begin: registers, slots, latch, key and EEPROM, of which any bytes are well formed.
+/// Where the arrays of bytes begin: registers, slots, latch, key and EEPROM, of which any bytes are well formed but the EEPROM's first four.
 pub const ARRAYS: usize = offset_of!(ChipMemory, registers);
 
 const _: () = assert!(size_of::<ChipMemory>() == SIZE && align_of::<ChipMemory>() == 4);
@@ -167,6 +167,10 @@ fn batch_waits(next: u16, latched: u8) -> bool {
     first == last && first >= 1
 }
 
+/// Why a chip is malformed by its edition: the number is none's, or the type bytes are not those of the edition.
+pub const NO_EDITION: &str = "no edition has this number";
+pub const OTHER_TYPE: &str = "the EEPROM's first four bytes are not the edition's";
+
 /// The plain chip of a memory; the reason when the memory is no chip's state, which is refusal 7.
 ///
 /// Manual 10.3, one clause after the other, and nothing else: what the active command does not use is judged only where a clause names it.
@@ -229,11 +233,18 @@ pub fn plain_of<const FAULT: u8>(chip: &ChipMemory) -> Result<FaultyChip<FAULT>,
     let loaded = flag(chip.key_loaded, "key_loaded is no flag")?;
     judge(FAULT != fault::RESERVED_IS_JUDGED || reserved_is_zero(chip), "a reserved field that is not 0")?;
 
+    // The last, so that where these are the reason there is no other.
+    let number = if FAULT == fault::EDITION_ABOVE_1_IS_WELL_FORMED { chip.edition & 1 } else { chip.edition };
+    let edition = Edition::of_number(number).ok_or(NO_EDITION)?;
+    let same = chip.eeprom[..4] == edition.type_bytes() || FAULT == fault::TYPE_BYTES_ARE_NOT_JUDGED;
+    judge(same, OTHER_TYPE)?;
+
     let mut fifo = Fifo::new();
     for place in 0..held {
         fifo.push(chip.slots[usize::from(chip.fifo_read.wrapping_add(place) % 64)]);
     }
     Ok(FaultyChip {
+        edition,
         fifo,
         timer,
         command,
@@ -262,7 +273,7 @@ fn judge(holds: bool, else_reason: &'static str) -> Result<(), &'static str> {
 
 /// What is kept for later requests is 0: a start leaves it so.
 pub fn reserved_is_zero(chip: &ChipMemory) -> bool {
-    chip.reserved_numbers == [0; 4] && chip.reserved_11 == 0 && chip.reserved_17 == [0; 7]
+    chip.reserved_numbers == [0; 4] && chip.reserved_17 == [0; 7]
 }
 
 // ---- The comparison --------------------------------------------------------------------------------------------------------------------
@@ -284,7 +295,8 @@ pub fn difference<const FAULT: u8>(plain: &FaultyChip<FAULT>, chip: &ChipMemory,
         _ => (None, None, 0),
     };
     let stage = if left > 0 { chip.stage | 0x40 } else { chip.stage };
-    let fields: [(&str, u32, u32); 20] = [
+    let fields: [(&str, u32, u32); 21] = [
+        ("edition", plain.edition as u32, u32::from(chip.edition)),
         ("held count", u32::from(plain.fifo.held()), u32::from(chip.fifo_write.wrapping_sub(chip.fifo_read))),
         ("timer_running", u32::from(plain.timer.run.is_some()), u32::from(chip.timer_running)),
         ("timer_value", u32::from(plain.timer.value), u32::from(chip.timer_value)),
@@ -346,6 +358,7 @@ fn array_difference(name: &str, first: usize, ours: &[u8], theirs: &[u8]) -> Opt
 #[cfg_attr(not(feature = "stub"), allow(dead_code))]
 pub fn store<const FAULT: u8>(plain: &FaultyChip<FAULT>, position: u8, chip: &mut ChipMemory) {
     let run = plain.timer.run;
+    chip.edition = plain.edition as u8;
     chip.fifo_read = position;
     chip.fifo_write = position.wrapping_add(plain.fifo.held());
     chip.timer_running = u8::from(run.is_some());

@@ -4,7 +4,7 @@
 use crate::built::started;
 use crate::chip_memory::{Memory, SIZE};
 use crate::library;
-use crate::plain::PROGRAMMING_CLOCKS;
+use crate::plain::{Edition, PROGRAMMING_CLOCKS};
 use crate::random::Random;
 
 /// A well-formed chip with a timer and a programming, either of which may rest. With `near` each has few clocks to its next end.
@@ -55,10 +55,11 @@ fn same(one: &Memory, other: &Memory, before: &Memory, how: &str) -> Result<(), 
 
 /// So many chips, each advanced at once and in parts. Answers how many advances those were.
 pub fn in_parts(seed: u64, chips: u64) -> Result<u64, String> {
-    let base = started();
+    let bases = Edition::BOTH.map(started);
     let mut random = Random::new(seed);
     let mut count = 0;
     for round in 0..chips {
+        let base = bases[(round % 2) as usize];
         // Few clocks, one by one.
         let before = chip(&mut random, &base, true);
         let clocks = random.below(40) as u32;

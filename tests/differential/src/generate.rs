@@ -1,9 +1,10 @@
 //! Call lists that get somewhere. The generator looks at the plain chip as it stands, makes small plans (a command with its arguments, a frame
 //! with its CRC, a programming to its last clock ...), and strays from them now and then.
 
-use crate::call::{lively, Call, Fill, Image};
+use crate::built::type_by_arithmetic;
+use crate::call::{lively, near_type, some_type, Call, Fill, Image};
 use crate::chip_memory::{field, Memory, ARRAYS, SIZE};
-use crate::plain::{stored_nibble, Checksum, Command, FaultyChip, Writing, PROGRAMMING_CLOCKS};
+use crate::plain::{stored_nibble, Checksum, Command, Edition, FaultyChip, Writing, PROGRAMMING_CLOCKS};
 use crate::random::Random;
 use std::collections::VecDeque;
 
@@ -38,9 +39,9 @@ const COMMANDS: [u8; 10] = [0x00, 0x01, 0x03, 0x07, 0x0B, 0x12, 0x16, 0x19, 0x1A
 const PROGRAMMING: i64 = PROGRAMMING_CLOCKS as i64;
 const STAGES: [u8; 12] = [0x00, 0x01, 0x41, 0x03, 0x07, 0x0B, 0x12, 0x19, 0x5A, 0x96, 0x5E, 0x9E];
 const SETTINGS: [u8; 8] = [0x0F, 0x22, 0x23, 0x24, 0x29, 0x2A, 0x2B, 0x2C];
-const EDGES: [u16; 28] = [
-    0x000, 0x001, 0x00F, 0x010, 0x011, 0x01F, 0x020, 0x05F, 0x060, 0x061, 0x070, 0x07E, 0x07F, 0x080, 0x081, 0x0F8, 0x100, 0x16C, 0x16F,
-    0x170, 0x1E8, 0x1F0, 0x1F3, 0x1F4, 0x1F5, 0x1F8, 0x1FE, 0x1FF,
+const EDGES: [u16; 31] = [
+    0x000, 0x001, 0x002, 0x003, 0x004, 0x00F, 0x010, 0x011, 0x01F, 0x020, 0x05F, 0x060, 0x061, 0x070, 0x07E, 0x07F, 0x080, 0x081, 0x0F8,
+    0x100, 0x16C, 0x16F, 0x170, 0x1E8, 0x1F0, 0x1F3, 0x1F4, 0x1F5, 0x1F8, 0x1FE, 0x1FF,
 ];
 
 impl Generator {
@@ -158,8 +159,10 @@ impl Generator {
                 Call::Deliver { bytes, parities, last_bits: random.of(&[0, 0, 1, 7, 8, 9, 255]) }
             }
             _ => {
-                let length = random.of(&[0, 1, 32, 511, 513, 544, 1024]);
-                Call::Start { image: Image { fill: Fill::Noise, seed: random.number() & 0xFFFF_FFFF, length } }
+                // A length that is refused, whatever the type bytes are, or type bytes that are, nearly always.
+                let length = random.of(&[0, 1, 3, 4, 32, 511, 512, 512, 512, 513, 544, 1024]);
+                let type_bytes = if length == 512 || random.one_in(2) { near_type(random) } else { some_type(random) };
+                Call::Start { image: Image { fill: Fill::Noise, seed: random.number() & 0xFFFF_FFFF, length, type_bytes } }
             }
         }
     }
@@ -168,7 +171,8 @@ impl Generator {
         let random = &mut self.random;
         let fill = random.of(&[Fill::Noise, Fill::Shipped, Fill::Keys, Fill::Keys, Fill::Keys]);
         let length = if random.one_in(8) { random.of(&[511, 513]) } else { 512 };
-        Call::Start { image: Image { fill, seed: random.number() & 0xFFFF_FFFF, length } }
+        let type_bytes = some_type(random);
+        Call::Start { image: Image { fill, seed: random.number() & 0xFFFF_FFFF, length, type_bytes } }
     }
 
     fn take(&mut self) -> Call {
@@ -388,7 +392,14 @@ impl Generator {
                 self.set(register, byte);
                 self.plan.push_back(Step::Get(register));
             }
-            _ => return self.random.one_in(2).then(|| self.start()),
+            _ => {
+                // As either edition, at once or after others that may be refused.
+                for _ in 0..self.random.below(3) {
+                    let start = self.start();
+                    self.call(start);
+                }
+                return Some(self.start());
+            }
         }
         None
     }
@@ -516,7 +527,7 @@ impl Generator {
                 }
             }
             3 => {
-                // Registers, slots, latch, key, and some of the EEPROM: any bytes are well formed.
+                // Registers, slots, latch, key, and some of the EEPROM: any bytes are well formed, but for the EEPROM's first four.
                 for _ in 0..=self.random.below(4) {
                     edits.push((ARRAYS as u16 + self.random.below(150) as u16, self.random.byte()));
                 }
@@ -542,7 +553,7 @@ impl Generator {
             let (start, length) = field(name).unwrap_or_else(|| panic!("no field {name}"));
             edits.extend((0..length).map(|place| ((start + place) as u16, value.checked_shr(8 * place as u32).unwrap_or(0) as u8)));
         };
-        match random.below(14) {
+        match random.below(16) {
             0 | 1 => {
                 let prescaler = random.of(&[0, 0, 1, 2, 5, 12, 20, 21, 21, 22, 23, 31, 32, 33, 53, 64, 128, 254, 255]);
                 let period = 1u32.checked_shl(prescaler).unwrap_or(0);
@@ -624,8 +635,28 @@ impl Generator {
                 put("crc_register", value);
             }
             11 => put("next_address", batch_end(random)),
-            12 => {
-                let name = random.of(&["reserved_numbers", "reserved_11", "reserved_17"]);
+            12 | 13 => {
+                // The edition's number and the type bytes: of one edition, of the other, of none.
+                let edition = random.of(&Edition::BOTH);
+                let own = edition as u8;
+                let number = random.of(&[own, own, own, own, 1 - own, 1 - own, 2, 3, 0x80, 0xFF, random.clone().byte()]);
+                let mut bytes = edition.type_bytes();
+                match random.below(6) {
+                    0 => bytes[random.below(4) as usize] ^= 1 << random.below(8),
+                    1 => bytes = near_type(random),
+                    2 => bytes = type_by_arithmetic(number),
+                    _ => {}
+                }
+                put("edition", u32::from(number));
+                let (start, _) = field("eeprom").unwrap_or_default();
+                edits.extend((start as u16..).zip(bytes));
+                if random.one_in(3) {
+                    // The version, of which any is well formed.
+                    edits.push((start as u16 + 4, random.byte()));
+                }
+            }
+            14 => {
+                let name = random.of(&["reserved_numbers", "reserved_17"]);
                 let (start, length) = field(name).unwrap_or_default();
                 for place in start..start + length {
                     if random.one_in(2) {

@@ -23,7 +23,7 @@ extern "C" {
         parity_length: usize,
         last_bits: u8,
     ) -> u32;
-    pub fn mfrc531_check_profile(profile: *const u8, length: usize) -> u32;
+    pub fn mfrc531_check_profile(edition: u8, profile: *const u8, length: usize) -> u32;
     pub fn mfrc531_choose(user: *const u8, user_length: usize, rescue: *const u8, rescue_length: usize) -> u32;
     /// Of the crate `crc_exports`, for this test alone.
     pub fn crc_absorb_all(redundancy: u8, register: u16, bytes: *const u8, length: usize) -> u16;
@@ -37,7 +37,7 @@ mod stub {
     use super::ChipMemory;
     use crate::checksum;
     use crate::chip_memory::{plain_of, store};
-    use crate::plain::{Chip, Refusal};
+    use crate::plain::{fault, Chip, Refusal};
     use crate::profile;
     use std::slice;
 
@@ -99,12 +99,12 @@ mod stub {
         event(chip, |plain| plain.deliver(bytes, parities, last_bits).map(|()| 0))
     }
 
-    pub unsafe fn mfrc531_check_profile(profile: *const u8, length: usize) -> u32 {
-        profile::check(slice::from_raw_parts(profile, length)).err().map_or(0, profile::Fault::answer)
+    pub unsafe fn mfrc531_check_profile(edition: u8, profile: *const u8, length: usize) -> u32 {
+        profile::check::<{ fault::NONE }>(edition, slice::from_raw_parts(profile, length)).err().map_or(0, profile::Fault::answer)
     }
 
     pub unsafe fn mfrc531_choose(user: *const u8, user_length: usize, rescue: *const u8, rescue_length: usize) -> u32 {
-        profile::choose(slice::from_raw_parts(user, user_length), slice::from_raw_parts(rescue, rescue_length))
+        profile::choose::<{ fault::NONE }>(slice::from_raw_parts(user, user_length), slice::from_raw_parts(rescue, rescue_length))
     }
 
     pub unsafe fn crc_absorb_all(redundancy: u8, register: u16, bytes: *const u8, length: usize) -> u16 {

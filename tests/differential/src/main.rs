@@ -34,12 +34,13 @@ const NONE: u8 = plain::fault::NONE;
 const USAGE: &str = "differential [--calls N] [--seed S] [--break N|all] [--random] [--trace] | --replay FILE | --race | --mixes | --count CHIP KIND ROUNDS";
 
 /// Lists written by hand, run before the random ones.
-const DIRECTED: [(&str, &str); 5] = [
+const DIRECTED: [(&str, &str); 6] = [
     ("numbers", include_str!("../lists/numbers.txt")),
     ("memory", include_str!("../lists/memory.txt")),
     ("clocks", include_str!("../lists/clocks.txt")),
     ("frames", include_str!("../lists/frames.txt")),
     ("refusals", include_str!("../lists/refusals.txt")),
+    ("editions", include_str!("../lists/editions.txt")),
 ];
 
 struct Options {
@@ -158,13 +159,14 @@ struct Failure {
 /// The whole comparison. True if nothing differs.
 fn compare(options: &Options) -> bool {
     println!("Plain chip against {}, seed {}, {} calls.", library::NAME, options.seed, options.calls);
-    if let Err(message) = edges::lengths().and_then(|()| edges::upper_halves()).and_then(|()| edges::starts()) {
+    if let Err(message) = edges::lengths().and_then(|()| edges::upper_halves()).and_then(|()| edges::starts()).and_then(|()| edges::types())
+    {
         println!("DIFFERENCE in the directed calls at the edges of the interface: {message}");
         return false;
     }
     let begin = Instant::now();
-    let profiles = match profile::compare(options.seed, options.calls / 5) {
-        Ok(calls) => calls,
+    let profiles = match profile::compare::<NONE>(options.seed, options.calls / 5, false) {
+        Ok(met) => met,
         Err(message) => {
             println!("DIFFERENCE (seed {}): {message}", options.seed);
             return false;
@@ -195,7 +197,7 @@ fn compare(options: &Options) -> bool {
         Ok(statistics) => {
             println!(
                 "No difference, {:.1} s. {statistics}; besides, {} built states judged and {} calls on such, {parts} advances at once and in \
-                 parts, {profiles} profile checks and choices, {checksums} checksums over slices",
+                 parts, {checksums} checksums over slices, {profiles}",
                 begin.elapsed().as_secs_f64(),
                 built.0,
                 built.1
@@ -256,9 +258,10 @@ fn one<const FAULT: u8>(session: &mut Session<FAULT>, call: &Call, statistics: &
         println!("{call}");
     }
     let before = session.plain().map(Glance::of);
+    let malformed = session.malformed();
     let result = session.perform(call);
     let after = session.plain().map(Glance::of);
-    statistics.count(call, *result.as_ref().unwrap_or(&0), before, after);
+    statistics.count(call, *result.as_ref().unwrap_or(&0), before, after, malformed);
     result.map(|_| ())
 }
 
@@ -391,21 +394,44 @@ fn report<const FAULT: u8>(failure: &Failure, seed: u64) {
 
 // ---- Planted faults --------------------------------------------------------------------------------------------------------------------
 
-/// Plants a fault into the plain chip. True if the comparison notices it.
+/// What a fault is looked for with, by its number.
+struct Planted {
+    run: fn(&Options) -> Result<Statistics, Box<Failure>>,
+    shrink: fn(List) -> (List, String),
+    show: fn(&List),
+    profiles: fn(u64, u64, bool) -> Result<profile::Met, String>,
+}
+
+/// Plants a fault into the plain chip, or into the plain profile check and choice. True if the comparison notices it.
 fn notice(fault: u8, options: &Options) -> bool {
     macro_rules! planted {
         ($($number:literal)*) => {
             match fault {
-                $($number => (run::<$number>(options).err(), shrink::<$number> as fn(List) -> (List, String), show::<$number> as fn(&List)),)*
+                $($number => Planted {
+                    run: run::<$number>,
+                    shrink: shrink::<$number>,
+                    show: show::<$number>,
+                    profiles: profile::compare::<$number>,
+                },)*
                 _ => return false,
             }
         };
     }
-    let (failure, shrink, show) = planted!(1 2 3 4 5 6 7 8 9 10 11 12 13 14 15 16 17 18 19 20 21 22 23 24 25 26 27 28 29 30 31);
+    let planted = planted!(
+        1 2 3 4 5 6 7 8 9 10 11 12 13 14 15 16 17 18 19 20 21 22 23 24 25 26 27 28 29 30 31 32 33 34 35 36 37 38 39 40 41 42 43
+    );
     let name = plain::fault::NAMES[usize::from(fault) - 1];
-    match failure {
+    if fault >= plain::fault::IN_PROFILES {
+        let compared = (planted.profiles)(options.seed, options.calls / 5, options.random);
+        match &compared {
+            Err(message) => println!("fault {fault}, {name}: noticed: {message}"),
+            Ok(met) => println!("fault {fault}, {name}: NOT NOTICED in {met}"),
+        }
+        return compared.is_err();
+    }
+    match (planted.run)(options).err() {
         Some(failure) => {
-            let (list, found) = shrink(failure.list);
+            let (list, found) = (planted.shrink)(failure.list);
             println!(
                 "fault {fault}, {name}: noticed at call {} ({}), shortest list {} calls: {found}",
                 failure.calls,
@@ -413,7 +439,7 @@ fn notice(fault: u8, options: &Options) -> bool {
                 list.calls.len()
             );
             if options.faults.len() == 1 {
-                show(&list);
+                (planted.show)(&list);
             }
             true
         }

@@ -1,4 +1,4 @@
-//! The MFRC531 reader bench in plain Rust: host registers, FIFO, EEPROM, timer, requests, CRC, commands and frames.
+//! The reader bench in plain Rust, an MFRC531 or an MF RC530: host registers, FIFO, EEPROM, timer, requests, CRC, commands and frames.
 //!
 //! Written from the requirements (the manual has their rules), as firmware people would write it, to be compared with the proved
 //! library and raced against it. Nothing here allocates; every event but `advance` and the commands' block moves is a few instructions, and
@@ -50,9 +50,24 @@ pub mod fault {
     pub const REQUEST_MISSED_AT_ITS_STEP: u8 = 29;
     pub const SECOND_PROGRAMMING_LOST: u8 = 30;
     pub const CLOCKS_IN_32_BITS: u8 = 31;
+    pub const TYPE_BEFORE_LENGTH: u8 = 32;
+    pub const TWO_TYPE_BYTES_DECIDE: u8 = 33;
+    pub const EACH_TYPE_BYTE_BY_ITSELF: u8 = 34;
+    pub const TYPE_BYTES_ARE_NOT_JUDGED: u8 = 35;
+    pub const EDITION_ABOVE_1_IS_WELL_FORMED: u8 = 36;
+    pub const REFUSED_START_CHANGES_EDITION: u8 = 37;
+    pub const FIXED_1_IS_TESTED_AS_0: u8 = 38;
+    pub const EDITION_ABOVE_1_IS_CHECKED: u8 = 39;
+    pub const EDITION_BEFORE_LENGTH: u8 = 40;
+    pub const CHOICE_BY_ONE_TABLE: u8 = 41;
+    pub const CHOICE_OF_NEITHER: u8 = 42;
+    pub const RESCUE_BY_THE_USERS_EDITION: u8 = 43;
+
+    /// The first of those that are planted into the profile check and the choice (`profile`) and not into the chip.
+    pub const IN_PROFILES: u8 = FIXED_1_IS_TESTED_AS_0;
 
     /// What the faults are, from 1 on.
-    pub const NAMES: [&str; 31] = [
+    pub const NAMES: [&str; 43] = [
         "WaterLevel is off by one",
         "a Command write clears FIFOOvfl",
         "an overflow drops the oldest byte",
@@ -84,6 +99,18 @@ pub mod fault {
         "TimerIRq is missed where the steps of an advance equal the value",
         "the clocks behind the first programming's end in an advance are lost",
         "the phase and the clocks of an advance are added in 32 bits",
+        "a start judges the type bytes before the length",
+        "the first two type bytes decide over the edition",
+        "each type byte may be that of either edition",
+        "the type bytes are not judged by refusal 7",
+        "an edition's number above 1 is well formed, and its lowest bit counts",
+        "a start that is refused with 2 changes the edition",
+        "the profile check tests a bit that is fixed at 1 for 0",
+        "the profile check goes by the lowest bit of an edition's number above 1",
+        "the profile check judges the edition's number before the length",
+        "the choice judges both images by the MFRC531's table",
+        "the choice judges an image of neither edition by the MFRC531's table",
+        "the choice judges the rescue image by the edition of the user's",
     ];
 }
 
@@ -97,6 +124,38 @@ pub enum Refusal {
     FrameMalformed = 5,
     BufferUnder66Bytes = 6,
     ChipMalformed = 7,
+    ImageOfNeitherEdition = 22,
+}
+
+/// The two chips of the family. Nothing that the chip does depends on it; a start and refusal 7 judge it, and the profile check has a table for each.
+#[derive(Clone, Copy, PartialEq, Eq, Debug)]
+#[repr(u8)]
+pub enum Edition {
+    Mfrc531 = 0,
+    MfRc530 = 1,
+}
+
+impl Edition {
+    pub const BOTH: [Edition; 2] = [Edition::Mfrc531, Edition::MfRc530];
+
+    /// The product type: what its EEPROM has at 000h-003h.
+    #[inline]
+    pub const fn type_bytes(self) -> [u8; 4] {
+        match self {
+            Edition::Mfrc531 => [0x30, 0xCC, 0xFF, 0x0F],
+            Edition::MfRc530 => [0x30, 0x88, 0xFE, 0x03],
+        }
+    }
+
+    /// The edition of a number, as a chip's memory has it and as the profile check is told it.
+    pub fn of_number(number: u8) -> Option<Self> {
+        Edition::BOTH.into_iter().find(|edition| *edition as u8 == number)
+    }
+
+    /// The edition of an image, by its first four bytes and nothing else.
+    pub fn of_image(image: &[u8]) -> Option<Self> {
+        Edition::BOTH.into_iter().find(|edition| image.starts_with(&edition.type_bytes()))
+    }
 }
 
 /// What a take answers.
@@ -437,6 +496,7 @@ pub type Chip = FaultyChip<{ fault::NONE }>;
 /// The chip with one of the faults of `fault` planted, or none.
 #[derive(Clone, Debug)]
 pub struct FaultyChip<const FAULT: u8> {
+    pub edition: Edition,
     pub fifo: Fifo,
     pub timer: Timer,
     pub command: Command,
@@ -463,8 +523,33 @@ pub struct FaultyChip<const FAULT: u8> {
 impl<const FAULT: u8> FaultyChip<FAULT> {
     /// A chip as a start from an image leaves it.
     pub fn started(image: &[u8]) -> Result<Self, Refusal> {
+        let (eeprom, edition) = Self::judged(image)?;
+        Ok(Self::fresh(eeprom, edition))
+    }
+
+    /// An image that a start takes, with its edition: it has 512 bytes, and then the first four are an edition's.
+    #[inline]
+    fn judged(image: &[u8]) -> Result<(&[u8; EEPROM_SIZE], Edition), Refusal> {
+        if FAULT == fault::TYPE_BEFORE_LENGTH && Edition::of_image(image).is_none() {
+            return Err(Refusal::ImageOfNeitherEdition);
+        }
         let eeprom: &[u8; EEPROM_SIZE] = image.try_into().map_err(|_| Refusal::ImageNot512Bytes)?;
+        let edition = match FAULT {
+            fault::TWO_TYPE_BYTES_DECIDE => Edition::BOTH.into_iter().find(|edition| eeprom[..2] == edition.type_bytes()[..2]),
+            fault::EACH_TYPE_BYTE_BY_ITSELF => {
+                let [one, other] = Edition::BOTH.map(Edition::type_bytes);
+                let either = (0..4).all(|place| eeprom[place] == one[place] || eeprom[place] == other[place]);
+                either.then(|| if eeprom[1] == one[1] { Edition::Mfrc531 } else { Edition::MfRc530 })
+            }
+            _ => Edition::of_image(eeprom),
+        };
+        Ok((eeprom, edition.ok_or(Refusal::ImageOfNeitherEdition)?))
+    }
+
+    #[inline]
+    fn fresh(eeprom: &[u8; EEPROM_SIZE], edition: Edition) -> Self {
         let mut chip = FaultyChip {
+            edition,
             fifo: Fifo::new(),
             timer: Timer::default(),
             command: Command::Idle,
@@ -482,7 +567,7 @@ impl<const FAULT: u8> FaultyChip<FAULT> {
             eeprom: *eeprom,
         };
         chip.load_registers(0x010);
-        Ok(chip)
+        chip
     }
 
     /// When a chip is well formed (manual 10.3), as far as the types leave it open. The events lead from well-formed chips to such.
@@ -504,12 +589,17 @@ impl<const FAULT: u8> FaultyChip<FAULT> {
         let zeros =
             (self.enables | self.requests) & 0xC0 | self.errors & 0x85 | self.page & 0x78 | self.control & 0xCF | self.rx_last_bits & 0xF8;
         let checksum = !self.checksum.is_8_bits() || self.checksum.value < 0x100;
-        self.fifo.held() <= self.command.waits() && timer && writing && zeros == 0 && checksum
+        let edition = self.eeprom[..4] == self.edition.type_bytes();
+        self.fifo.held() <= self.command.waits() && timer && writing && zeros == 0 && checksum && edition
     }
 
     /// A start: from whatever the chip was to a fresh one with this image.
     pub fn start(&mut self, image: &[u8]) -> Result<(), Refusal> {
-        *self = Self::started(image)?;
+        if FAULT == fault::REFUSED_START_CHANGES_EDITION {
+            self.edition = Edition::of_image(image).unwrap_or(self.edition);
+        }
+        let (eeprom, edition) = Self::judged(image)?;
+        *self = Self::fresh(eeprom, edition);
         Ok(())
     }
 
@@ -879,7 +969,8 @@ impl<const FAULT: u8> FaultyChip<FAULT> {
                 let key = if address <= last {
                     let mut stored = [0; 12];
                     for (place, byte) in stored.iter_mut().enumerate() {
-                        *byte = self.eeprom[(address + place) % EEPROM_SIZE];
+                        // Only the fault reads beyond the end, where it finds a nibble: 30h, at 000h, is none and would hide it.
+                        *byte = *self.eeprom.get(address + place).unwrap_or(&0xF0);
                     }
                     key_of(&stored)
                 } else {

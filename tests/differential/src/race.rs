@@ -6,7 +6,7 @@
 
 use crate::chip_memory::{Memory, SIZE};
 use crate::library as lib;
-use crate::plain::{Chip, Refusal};
+use crate::plain::{Chip, Edition, Refusal};
 use crate::recorded::{recorded, Access};
 use crate::registers::*;
 use std::hint::black_box;
@@ -215,8 +215,15 @@ fn exchanges<B: Bench>(chip: &mut B) -> u64 {
     sum + buffer.iter().map(|&byte| u64::from(byte)).sum::<u64>()
 }
 
+/// An image of an MFRC531, with this byte elsewhere.
+fn filled(byte: u8) -> [u8; 512] {
+    let mut image = [byte; 512];
+    image[..4].copy_from_slice(&Edition::Mfrc531.type_bytes());
+    image
+}
+
 fn starts<B: Bench>(chip: &mut B) -> u64 {
-    let image = black_box([7; 512]);
+    let image = black_box(filled(7));
     (0..100).map(|_| u64::from(chip.start(&image))).sum()
 }
 
@@ -266,7 +273,7 @@ const LINES: [Line; 15] = [
 ];
 
 fn prepared<B: Bench>(chip: &mut B, prepare: &[(u8, u8)]) {
-    let mut image = [0; 512];
+    let mut image = filled(0);
     image[0x23] = 0x63;
     image[0x24] = 0x63;
     image[0x29] = 0x08;
@@ -280,7 +287,7 @@ fn prepared<B: Bench>(chip: &mut B, prepare: &[(u8, u8)]) {
 /// The three chips, prepared alike.
 fn three(prepare: &[(u8, u8)]) -> (Memory, Chip, Judged) {
     let mut library = Memory([0; SIZE]);
-    let mut plain = Chip::started(&[0; 512]).unwrap();
+    let mut plain = Chip::started(&filled(0)).unwrap();
     let mut judged = Judged(plain.clone());
     prepared(&mut library, prepare);
     prepared(&mut plain, prepare);

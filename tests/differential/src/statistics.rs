@@ -1,7 +1,8 @@
 //! What a run has reached, for its last line.
 
 use crate::call::Call;
-use crate::plain::{error, request, Command, FaultyChip, Writing};
+use crate::chip_memory::{NO_EDITION, OTHER_TYPE};
+use crate::plain::{error, request, Command, Edition, FaultyChip, Writing};
 use std::fmt;
 
 const COMMANDS: [(u8, &str); 9] = [
@@ -19,6 +20,7 @@ const COMMANDS: [(u8, &str); 9] = [
 /// What is looked at of a chip before and after a call.
 #[derive(Clone, Copy)]
 pub struct Glance {
+    edition: Edition,
     command: Command,
     errors: u8,
     requests: u8,
@@ -30,6 +32,7 @@ pub struct Glance {
 impl Glance {
     pub fn of<const FAULT: u8>(chip: &FaultyChip<FAULT>) -> Self {
         Glance {
+            edition: chip.edition,
             command: chip.command,
             errors: chip.errors,
             requests: chip.requests,
@@ -52,7 +55,14 @@ pub struct Statistics {
     pub calls: u64,
     pub lists: u64,
     events: [u64; 8],
-    refusals: [u64; 8],
+    pub refusals: [u64; 23],
+    /// Calls on well-formed chips of each edition, and accepted starts as each.
+    pub on: [u64; 2],
+    pub started: [u64; 2],
+    /// Accepted starts of a well-formed chip as the other edition.
+    pub changed: u64,
+    /// Calls refused with 7 because of the edition alone: its number is none's, the type bytes are not its own.
+    pub by_edition: [u64; 2],
     /// Ends by itself, without and with an error flag set by it.
     ended: [[u64; 2]; 9],
     left: [u64; 9],
@@ -67,7 +77,8 @@ pub struct Statistics {
 }
 
 impl Statistics {
-    pub fn count(&mut self, call: &Call, answer: u32, before: Option<Glance>, after: Option<Glance>) {
+    /// Counts a call with what it answered. `malformed` is why the chip was malformed before it, if it was.
+    pub fn count(&mut self, call: &Call, answer: u32, before: Option<Glance>, after: Option<Glance>, malformed: Option<&str>) {
         self.calls += 1;
         let event = match call {
             Call::Start { .. } => 0,
@@ -89,6 +100,16 @@ impl Statistics {
         let refusal = (answer & 0xFF) as usize;
         if let Some(count) = self.refusals.get_mut(refusal) {
             *count += 1;
+        }
+        if let (7, Some(place)) = (refusal, [NO_EDITION, OTHER_TYPE].iter().position(|reason| malformed == Some(*reason))) {
+            self.by_edition[place] += 1;
+        }
+        if let Some(before) = before {
+            self.on[before.edition as usize] += 1;
+        }
+        if let (0, 0, Some(after)) = (event, refusal, after) {
+            self.started[after.edition as usize] += 1;
+            self.changed += u64::from(before.is_some_and(|before| before.edition != after.edition));
         }
         let (Some(before), Some(after)) = (before, after) else { return };
         if event == 0 || refusal != 0 {
@@ -136,7 +157,12 @@ impl fmt::Display for Statistics {
         write!(out, "{} calls in {} lists:", self.calls, self.lists)?;
         names.iter().zip(self.events).try_for_each(|(name, count)| write!(out, " {name} {count}"))?;
         write!(out, "; refused with")?;
-        (1..8).try_for_each(|number| write!(out, " {number}: {}", self.refusals[number]))?;
+        (1..8).chain([22]).try_for_each(|number| write!(out, " {number}: {}", self.refusals[number]))?;
+        let [numbers, types] = self.by_edition;
+        write!(out, "; 7 by the edition alone: no edition's number {numbers}, not its type bytes {types}")?;
+        let ([calls_531, calls_530], [starts_531, starts_530]) = (self.on, self.started);
+        write!(out, "; calls on an MFRC531 {calls_531}, on an MF RC530 {calls_530}")?;
+        write!(out, "; starts as an MFRC531 {starts_531}, as an MF RC530 {starts_530}, {} of them change the edition", self.changed)?;
         write!(out, "; commands ended by themselves well/with an error/left for another:")?;
         for (place, (_, name)) in COMMANDS.iter().enumerate() {
             write!(out, " {name} {}/{}/{}", self.ended[place][0], self.ended[place][1], self.left[place])?;

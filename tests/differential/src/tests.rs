@@ -2,8 +2,8 @@
 
 use crate::call::{Fill, Image};
 use crate::checksum::bit_by_bit;
-use crate::chip_memory::{difference, place_name, places_of, plain_of, store, Memory, FIELDS, SIZE};
-use crate::plain::{error, fault, key_of, request, stored_nibble, Chip, Command, Refusal, Taken, Writing, PROGRAMMING_CLOCKS};
+use crate::chip_memory::{difference, place_name, places_of, plain_of, store, Memory, FIELDS, NO_EDITION, OTHER_TYPE, SIZE};
+use crate::plain::{error, fault, key_of, request, stored_nibble, Chip, Command, Edition, Refusal, Taken, Writing, PROGRAMMING_CLOCKS};
 use crate::random::Random;
 use crate::registers::*;
 
@@ -15,7 +15,13 @@ fn chip_with(image: &[u8]) -> Chip {
 }
 
 fn chip() -> Chip {
-    chip_with(&[0; 512])
+    chip_with(&typed(Edition::Mfrc531, [0; 512]))
+}
+
+/// These bytes as an image of an edition.
+fn typed(edition: Edition, mut image: [u8; 512]) -> [u8; 512] {
+    image[..4].copy_from_slice(&edition.type_bytes());
+    image
 }
 
 impl Chip {
@@ -46,8 +52,8 @@ impl Chip {
     }
 }
 
-fn numbered_image() -> Vec<u8> {
-    (0..512).map(|place| (place % 251) as u8).collect()
+fn numbered_image() -> [u8; 512] {
+    typed(Edition::Mfrc531, std::array::from_fn(|place| (place % 251) as u8))
 }
 
 // ---- Numbers ---------------------------------------------------------------------------------------------------------------------------
@@ -135,12 +141,29 @@ fn keys() {
 fn keys_from_memory() {
     let mut image = [0; 512];
     image[0x1F4..].copy_from_slice(&STORED);
-    image[..12].copy_from_slice(&STORED);
-    for (address, key) in [(0x1F4u16, Some(KEY)), (0x1F5, None), (0x1FF, None), (0x000, Some(KEY)), (0x200, Some(KEY)), (0x001, None)] {
-        let mut chip = chip_with(&image);
-        chip.run(0x0B, &address.to_le_bytes());
-        assert_eq!(chip.key, key, "{address:X}");
-        assert_eq!(chip.get(ERROR_FLAG), if key.is_none() { error::KEY } else { 0 });
+    image[0x004..0x010].copy_from_slice(&STORED);
+    // The MFRC531's last type byte is in the format of a key, as the nibble Fh; no other type byte of either edition is.
+    let from_003 = [0xFA, 0x0A, 0x1A, 0x2A, 0x3A, 0x4A];
+    for edition in Edition::BOTH {
+        let at_003 = (edition == Edition::Mfrc531).then_some(from_003);
+        let cases = [
+            (0x1F4u16, Some(KEY)),
+            (0x1F5, None),
+            (0x1FF, None),
+            (0x004, Some(KEY)),
+            (0x204, Some(KEY)),
+            (0x005, None),
+            (0x000, None),
+            (0x001, None),
+            (0x002, None),
+            (0x003, at_003),
+        ];
+        for (address, key) in cases {
+            let mut chip = chip_with(&typed(edition, image));
+            chip.run(0x0B, &address.to_le_bytes());
+            assert_eq!(chip.key, key, "{address:X}");
+            assert_eq!(chip.get(ERROR_FLAG), if key.is_none() { error::KEY } else { 0 });
+        }
     }
 }
 
@@ -201,7 +224,7 @@ fn load_config() {
 fn load_config_judges_nothing() {
     let mut image = [0xFF; 512];
     image[0x60..0x80].fill(0x18);
-    let mut chip = chip_with(&image);
+    let mut chip = chip_with(&typed(Edition::MfRc530, image));
     assert_eq!(chip.get(0x2A), 0xFF);
     chip.run(0x07, &[0x60, 0]);
     assert_eq!((chip.get(0x2A), chip.get(ERROR_FLAG)), (0x18, error::KEY));
@@ -309,7 +332,7 @@ fn write_meets_block_0_after_the_end() {
     let mut chip = chip();
     chip.run(0x01, &[0xFF, 0x01, 0xAA, 0xBB]);
     chip.pass(PROGRAMMING_CLOCKS);
-    assert_eq!((chip.eeprom[0x1FF], chip.eeprom[0]), (0xAA, 0));
+    assert_eq!((chip.eeprom[0x1FF], chip.eeprom[0]), (0xAA, 0x30));
     assert_eq!((chip.get(ERROR_FLAG) & error::ACCESS, chip.get(COMMAND)), (error::ACCESS, 0));
     assert_eq!(chip.get(INTERRUPT_RQ) & (request::TX | request::IDLE), request::IDLE);
     assert_eq!(chip.drain(), [0xBB]);
@@ -463,6 +486,7 @@ fn frames_in() {
 #[test]
 fn refusals() {
     assert_eq!(Chip::started(&[0; 511]).err(), Some(Refusal::ImageNot512Bytes));
+    assert_eq!(Chip::started(&[0; 512]).err(), Some(Refusal::ImageOfNeitherEdition));
     let mut chip = chip();
     assert_eq!(chip.read(64), Err(Refusal::AddressAbove63));
     assert_eq!(chip.write(64, 0), Err(Refusal::AddressAbove63));
@@ -474,6 +498,63 @@ fn refusals() {
     assert_eq!(chip.deliver(&[0], &[2], 1), Err(Refusal::FrameMalformed));
 }
 
+// ---- Editions --------------------------------------------------------------------------------------------------------------------------
+
+/// A start goes by the length, and then by the first four bytes, all of them and no other.
+#[test]
+fn starts_by_edition() {
+    for edition in Edition::BOTH {
+        let mut image = typed(edition, [0x5A; 512]);
+        for version in 0..=255 {
+            image[4] = version;
+            assert_eq!(Chip::started(&image).map(|chip| chip.edition), Ok(edition));
+        }
+        for length in [0, 3, 4, 511] {
+            assert_eq!(Chip::started(&image[..length]).err(), Some(Refusal::ImageNot512Bytes));
+        }
+        assert_eq!(Chip::started(&[&image[..], &[0]].concat()).err(), Some(Refusal::ImageNot512Bytes));
+        for bit in 0..32 {
+            let mut image = image;
+            image[bit / 8] ^= 1 << (bit % 8);
+            assert_eq!(Chip::started(&image).err(), Some(Refusal::ImageOfNeitherEdition));
+            assert_eq!(Chip::started(&image[..511]).err(), Some(Refusal::ImageNot512Bytes));
+        }
+    }
+    for neither in [[0; 4], [0x30, 0x88, 0xFF, 0x0F], [0x30, 0xCC, 0xFE, 0x03], [0x30, 0x88, 0xFE, 0x0F], [0x30, 0xCC, 0xFF, 0x03]] {
+        let mut image = [0; 512];
+        image[..4].copy_from_slice(&neither);
+        assert_eq!(Chip::started(&image).err(), Some(Refusal::ImageOfNeitherEdition));
+    }
+}
+
+/// The edition stays through everything but an accepted start, and shows where its type bytes are read.
+#[test]
+fn editions_stay() {
+    for edition in Edition::BOTH {
+        let other = Edition::BOTH[1 - edition as usize];
+        let mut chip = chip_with(&typed(edition, [0; 512]));
+        // WriteE2 at block 0, and up to it from the memory's end.
+        for address in [0x000u16, 0x003, 0x1FF] {
+            let [low, high] = address.to_le_bytes();
+            chip.run(0x01, &[low, high, 1, 2, 3, 4]);
+            chip.pass(2 * PROGRAMMING_CLOCKS);
+            assert_eq!(chip.get(ERROR_FLAG) & error::ACCESS, error::ACCESS);
+            chip.set(CONTROL, 0x01);
+        }
+        // Starts that are refused, with the other edition's type bytes and with none's.
+        let image = typed(other, [0; 512]);
+        assert_eq!(chip.start(&image[..511]), Err(Refusal::ImageNot512Bytes));
+        assert_eq!(chip.start(&[0; 512]), Err(Refusal::ImageOfNeitherEdition));
+        chip.run(0x03, &[0, 0, 4]);
+        assert_eq!((chip.edition, chip.drain()), (edition, edition.type_bytes().to_vec()));
+        // A start as the other one.
+        chip.start(&image).unwrap();
+        chip.set(0x00, 0x00);
+        chip.run(0x03, &[0, 0, 4]);
+        assert_eq!((chip.edition, chip.drain()), (other, other.type_bytes().to_vec()));
+    }
+}
+
 // ---- The jump, and the memory ----------------------------------------------------------------------------------------------------------
 
 /// n clocks are n times one clock.
@@ -481,7 +562,7 @@ fn refusals() {
 fn clocks_one_by_one() {
     let mut random = Random::new(13);
     for round in 0..400 {
-        let mut chip = chip_with(&Image { fill: Fill::Keys, seed: round, length: 512 }.bytes());
+        let mut chip = chip_with(&Image::whole(Fill::Keys, round, Edition::BOTH[(round % 2) as usize]).bytes());
         chip.set(0x29, random.byte() & 0x0F);
         chip.set(0x2A, random.of(&[0, 1, 2, 0x20, 0x21, 0x23]));
         chip.set(0x2C, random.of(&[1, 2, 3, 7, 255]));
@@ -623,7 +704,7 @@ fn other_fields_are_judged() {
         "crc_register=FF crc_mode=10",
         "crc_register=FFFF crc_mode=EF",
         "interrupt_en=3F interrupt_rq=3F error_flag=7A page=87 control=30 rx_last_bits=7 key_loaded=1 bit_framing=FF",
-        "reserved_numbers=FFFFFFFFFFFFFFFF reserved_11=FF reserved_17=FFFFFFFFFFFFFF padding+0=FF padding+1=FF",
+        "reserved_numbers=FFFFFFFFFFFFFFFF reserved_17=FFFFFFFFFFFFFF padding+0=FF padding+1=FF",
     ];
     let malformed = [
         "timer_running=1",
@@ -655,6 +736,45 @@ fn other_fields_are_judged() {
     malformed.iter().for_each(|fields| assert!(!well_formed(fields), "{fields}"));
 }
 
+/// The edition's number and the EEPROM's first four bytes: one edition's both, and nothing else; a chip of zeros is malformed by it.
+#[test]
+fn the_edition_is_judged() {
+    let reason = |fields: &str| plain_of::<{ fault::NONE }>(memory_with(fields).chip()).err();
+    let mfrc531 = "eeprom[00h]=30 eeprom[01h]=CC eeprom[02h]=FF eeprom[03h]=0F";
+    let mf_rc530 = "eeprom[00h]=30 eeprom[01h]=88 eeprom[02h]=FE eeprom[03h]=03";
+    let mixed = "eeprom[00h]=30 eeprom[01h]=88 eeprom[02h]=FF eeprom[03h]=0F";
+    for number in 0..=255 {
+        let with = |type_bytes: &str| reason(&format!("edition={number:X} {type_bytes}"));
+        let wanted = |own: u8| match number {
+            _ if number == own => None,
+            0 | 1 => Some(OTHER_TYPE),
+            _ => Some(NO_EDITION),
+        };
+        assert_eq!((with(mfrc531), with(mf_rc530)), (wanted(0), wanted(1)), "{number}");
+        assert!(with(mixed).is_some() && with("eeprom[00h]=0 eeprom[01h]=0 eeprom[02h]=0 eeprom[03h]=0").is_some());
+    }
+    for bit in 0..32 {
+        for (number, edition) in Edition::BOTH.into_iter().enumerate() {
+            let mut bytes = edition.type_bytes();
+            bytes[bit / 8] ^= 1 << (bit % 8);
+            let [a, b, c, d] = bytes;
+            let fields = format!("edition={number} eeprom[00h]={a:X} eeprom[01h]={b:X} eeprom[02h]={c:X} eeprom[03h]={d:X}");
+            assert_eq!(reason(&fields), Some(OTHER_TYPE), "{fields}");
+        }
+    }
+    assert_eq!(reason("eeprom[04h]=FF eeprom[0Fh]=FF"), None);
+    assert_eq!(plain_of::<{ fault::NONE }>(Memory([0; SIZE]).chip()).err(), Some(OTHER_TYPE));
+    // The chip that judges itself in the race does so by the same rule.
+    for edition in Edition::BOTH {
+        let mut chip = chip_with(&typed(edition, [0; 512]));
+        assert!(chip.well_formed());
+        chip.eeprom[3] ^= 4;
+        assert!(!chip.well_formed());
+        chip.eeprom[..4].copy_from_slice(&Edition::BOTH[1 - edition as usize].type_bytes());
+        assert!(!chip.well_formed());
+    }
+}
+
 /// A programming whose stage has no address goes on as one that has: there is one machine for both.
 #[test]
 fn programming_at_stage_01() {
@@ -675,6 +795,7 @@ fn built_states_notice_wrong_judging() {
     }
     noticed!(FULL_PHASE_IS_WELL_FORMED LEFT_OVER_COUNT_IS_MALFORMED BATCH_WITHOUT_CLOCKS_IS_WELL_FORMED STAGE_01_DOES_NOT_PROGRAM);
     noticed!(STAGE_81_IS_LISTED NEXT_ADDRESS_JUDGED_FOR_WRITE_E2_ALONE RESERVED_IS_JUDGED);
+    noticed!(TYPE_BYTES_ARE_NOT_JUDGED EDITION_ABOVE_1_IS_WELL_FORMED);
 }
 
 /// Every byte has a name that leads back to it, and every field a name for all of its bytes.
@@ -701,6 +822,17 @@ fn planted_faults_are_noticed() {
     for fault in 1..=crate::plain::fault::NAMES.len() as u8 {
         assert!(crate::notice(fault, &options));
     }
+}
+
+/// Random lists meet both editions, their change, 22, and 7 because of the edition alone, again and again.
+#[test]
+fn editions_are_met() {
+    let options = crate::Options { calls: 200_000, random: true, ..crate::Options::default() };
+    let Ok(statistics) = crate::run::<{ fault::NONE }>(&options) else { panic!("a difference") };
+    assert!(statistics.on.iter().all(|calls| *calls > 60_000), "{statistics}");
+    assert!(statistics.started.iter().all(|starts| *starts > 300) && statistics.changed > 150, "{statistics}");
+    assert!(statistics.refusals[22] > 300, "{statistics}");
+    assert!(statistics.by_edition.iter().all(|refused| *refused > 300), "{statistics}");
 }
 
 /// The recorded mix is the list that docs/PERFORMANCE.md describes.

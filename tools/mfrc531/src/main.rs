@@ -6,6 +6,7 @@ mod registers;
 mod shell;
 mod waveform;
 
+use mfrc531::Edition;
 use output::Output;
 use posted::Form;
 use std::ffi::OsString;
@@ -21,15 +22,16 @@ pub enum Ended {
 }
 
 const USAGE: &str = "\
-mfrc531: an MFRC531 card-reader chip in software, and the check of its start-up profiles
+mfrc531: an MFRC531 or MF RC530 card-reader chip in software, and the check of its start-up profiles
 
-    mfrc531 profile [--image] [--raw | --text] FILE..
+    mfrc531 profile [--edition mfrc531 | rc530] [--image] [--raw | --text] FILE..
     mfrc531 shell [--vcd OUT.vcd] [FILE]
     mfrc531 --help | --version
 
 profile   For each file ('-' is standard input) a line, the one that profile_check prints for the same bytes, with the file's name before
           it where several are given, and below it what it means. A profile is 32 bytes, for registers 10h-2Fh.
-          Exit status: 0 all pass, 1 one is refused, 2 one cannot be read.
+          --edition rc530 judges by the bits that the data sheet of the MF RC530 fixes; else it is by those of the MFRC531, as
+          profile_check does. Exit status: 0 all pass, 1 one is refused, 2 one cannot be read.
 
           A file is raw bytes, or text in hexadecimal digits: with 0x or h, commas or semicolons; the dumps of xxd, hexdump and od -t x1
           with offsets and column of text; arrays of C with comments; strings of \\x escapes. '#' begins a comment. Text is what has no
@@ -37,10 +39,11 @@ profile   For each file ('-' is standard input) a line, the one that profile_che
           which it is.
 
           An image of 512 bytes is refused (9), since it is no profile, and the lines below say what its profile, bytes 10h-2Fh, would
-          get. With --image every file is an image, and that profile is judged in its place.
+          get. With --image every file is an image, and that profile is judged in its place. Without --edition the profile of an image
+          is judged as that of the image's own edition, by its first four bytes: 30 CC FF 0F the MFRC531, 30 88 FE 03 the MF RC530.
 
-shell     Drives a chip by lines from a terminal, a pipe or a file: starts, host reads and writes, clocks, frames. It begins with a chip
-          started from the shipped image. Exit status: 0, or 2 at the first line that cannot be done (a terminal goes on).
+shell     Drives a chip by lines from a terminal, a pipe or a file: starts, host reads and writes, clocks, frames. It begins with an
+          MFRC531 started from the shipped image. Exit status: 0, or 2 at the first line that cannot be done (a terminal goes on).
           --vcd writes IRq and ModemState (of PrimaryStatus), E2Ready, TRunning, the FIFO's held count, the timer's value and the
           command as a waveform, for GTKWave. Its time scale is 1 ps, since no scale divides the clock of 13.56 MHz: clock n stands at
           n * 25000000 / 339 ps, rounded. Calls at one clock stand 1 ps apart, in their order.
@@ -94,12 +97,20 @@ fn chosen(arguments: &[OsString]) -> Result<Task, String> {
 }
 
 fn chosen_profile(arguments: &[OsString]) -> Result<Task, String> {
-    let mut options = profile::Options { form: Form::Told, images: false, files: Vec::new() };
+    let mut options = profile::Options { form: Form::Told, edition: None, images: false, files: Vec::new() };
+    let mut arguments = arguments.iter();
     let mut only_files = false;
-    for argument in arguments {
+    while let Some(argument) = arguments.next() {
         match argument.to_str() {
             Some("--") if !only_files => only_files = true,
             Some("--help" | "-h") if !only_files => return Ok(Task::Help),
+            Some("--edition") if !only_files => {
+                let word = arguments.next().ok_or("--edition needs mfrc531 or rc530")?;
+                options.edition = Some(edition_of(&word.to_string_lossy())?);
+            }
+            Some(option) if !only_files && option.starts_with("--edition=") => {
+                options.edition = Some(edition_of(&option["--edition=".len()..])?)
+            }
             Some("--image") if !only_files => options.images = true,
             Some("--raw") if !only_files => options.form = Form::Raw,
             Some("--text") if !only_files => options.form = Form::Text,
@@ -129,6 +140,10 @@ fn chosen_shell(arguments: &[OsString]) -> Result<Task, String> {
         }
     }
     Ok(Task::Shell { script, waveform })
+}
+
+fn edition_of(word: &str) -> Result<Edition, String> {
+    registers::edition_named(word).ok_or_else(|| format!("{} is no edition: mfrc531 or rc530", posted::quoted(word)))
 }
 
 fn unknown(option: &str) -> String {

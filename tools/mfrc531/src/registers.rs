@@ -1,9 +1,9 @@
-//! Registers by name, and their bytes in words.
+//! Registers, commands and editions by name, and registers' bytes in words.
 use mfrc531::bits::{
     bit_framing, channel_redundancy, control, error_flag, fifo_level, interrupt_rq, page, primary_status, secondary_status, timer_clock,
     timer_control,
 };
-use mfrc531::{Chip, Command, ModemState, Register};
+use mfrc531::{Chip, Command, Edition, ModemState, Register};
 
 /// The parts of a register's byte: a mask and its name. One bit is a flag, several are a number.
 fn parts(register: Register) -> &'static [(u8, &'static str)] {
@@ -139,6 +139,12 @@ pub fn named(name: &str) -> Option<Register> {
 /// A command by its name; capitals do not matter.
 pub fn command_named(name: &str) -> Option<Command> {
     Command::ALL.iter().find(|command| command.name().eq_ignore_ascii_case(name)).copied()
+}
+
+/// An edition by the word that is typed for it; capitals do not matter.
+pub fn edition_named(word: &str) -> Option<Edition> {
+    let same = |edition: &&Edition| format!("{edition:?}").eq_ignore_ascii_case(word);
+    Edition::ALL.iter().find(same).copied()
 }
 
 /// The register at an address of 10h-2Fh as the profile check names it: `2Ah TimerClock`.

@@ -1,11 +1,11 @@
 //! A chip driven by lines: from a terminal, a pipe or a file.
 use crate::output::{complain, Output};
 use crate::posted::{bytes_of_file, plain, quoted, Fault, Form};
-use crate::registers::{asked_in_words, command_named, digits, in_words, linear_copy, named, reached};
+use crate::registers::{asked_in_words, command_named, digits, edition_named, in_words, linear_copy, named, reached};
 use crate::waveform::{clocks_to_change, timer_steps, Waveform};
 use crate::Ended;
 use mfrc531::bits::{channel_redundancy, page};
-use mfrc531::{shipped_image, Chip, Refusal, Register};
+use mfrc531::{shipped_image, shipped_image_of, Chip, Edition, Refusal, Register};
 use std::collections::VecDeque;
 use std::ffi::OsString;
 use std::fs::File;
@@ -20,8 +20,9 @@ const MOST_IN_HISTORY: usize = 10_000;
 const MOST_STEPS: u64 = 1_000_000;
 
 pub const HELP: &str = "\
-start [IMAGE]               a start, from the shipped image or from a file: an image of 512 bytes, or a profile of 32, which is put
-                            at 10h-2Fh of an image of zeros
+start [EDITION] [FILE]      a start, from the shipped image or from a file: an image of 512 bytes, which says its edition by its first
+                            four bytes, or a profile of 32, which is put at 10h-2Fh of an image with those four bytes and zeros;
+                            EDITION is mfrc531, as it is without the word, or rc530
 read REGISTER               a host read; a read of FIFOData removes the byte
 write REGISTER BYTE         a host write; for Command the byte may be a command's name
 advance CLOCKS              so many clocks pass, 0 to 4294967295
@@ -97,7 +98,7 @@ pub fn run(script: Option<&OsString>, waveform: Option<&OsString>, output: &mut 
     };
     let mut bench = Bench { chip, clock: 0, history: VecDeque::new(), calls: 0, waveform: opened, output };
     if terminal {
-        bench.output.line("A chip, started from the shipped image. 'help' says what can be typed, 'quit' ends.");
+        bench.output.line("An MFRC531, started from the shipped image. 'help' says what can be typed, 'quit' ends.");
     }
     let mut ended = bench.lines(&mut *input, name, terminal);
     let clock = bench.clock;
@@ -187,12 +188,18 @@ impl Bench<'_> {
         };
         let words: Vec<&str> = words.collect();
         match (verb.to_ascii_lowercase().as_str(), &words[..]) {
-            ("start", []) => self.start(None),
-            ("start", ["shipped"]) => self.start(None),
+            ("start", [] | ["shipped"]) => self.start(None, None),
             ("start", ["shipped" | "noise" | "keys", _, _]) | ("memory" | "corrupt" | "mend", _) => {
                 Err(format!("{} is for the lists of the differential test alone", quoted(line)).into())
             }
-            ("start", _) => self.start(Some(line[verb.len()..].trim())),
+            ("start", [first, rest @ ..]) => {
+                let file = line[verb.len()..].trim();
+                match edition_named(first) {
+                    Some(edition) if rest.is_empty() => self.start(Some(edition), None),
+                    Some(edition) => self.start(Some(edition), Some(file[first.len()..].trim())),
+                    None => self.start(None, Some(file)),
+                }
+            }
             ("read", [register]) => self.read(register),
             ("write", [register, byte]) => self.write(register, byte),
             ("advance", [clocks]) => self.advance(clocks),
@@ -243,9 +250,9 @@ impl Bench<'_> {
         }
     }
 
-    fn start(&mut self, file: Option<&str>) -> Result<(), Stop> {
+    fn start(&mut self, edition: Option<Edition>, file: Option<&str>) -> Result<(), Stop> {
         let (image, from) = match file {
-            None => (shipped_image().to_vec(), "from the shipped image".to_string()),
+            None => (shipped_image_of(edition.unwrap_or(Edition::Mfrc531)).to_vec(), "from the shipped image".to_string()),
             Some(file) => {
                 let bytes = bytes_of_file(Path::new(file), Form::Told).map_err(|Fault { line, what }| {
                     let place = line.map_or(String::new(), |line| format!("{line}:"));
@@ -253,16 +260,22 @@ impl Bench<'_> {
                 })?;
                 match bytes.len() {
                     32 => {
-                        let mut image = vec![0; 512];
+                        let mut image = shipped_image_of(edition.unwrap_or(Edition::Mfrc531)).to_vec();
                         image[0x10..0x30].copy_from_slice(&bytes);
-                        (image, "from a profile of 32 bytes in an image of zeros".to_string())
+                        (image, "from a profile of 32 bytes".to_string())
                     }
+                    512 if edition.is_some() => return Err("an image says its edition itself: start FILE".to_string().into()),
                     length => (bytes, format!("from {length} bytes")),
                 }
             }
         };
-        let call = file.map_or("start".to_string(), |file| format!("start {file}"));
-        self.call(&call, |bench| Ok(bench.chip.restart(&image).map(|()| from)))
+        let words = [edition.map(|edition| format!(" {edition:?}").to_lowercase()), file.map(|file| format!(" {file}"))];
+        let call = format!("start{}", words.into_iter().flatten().collect::<String>());
+        self.call(&call, |bench| {
+            let started = bench.chip.restart(&image);
+            let edition = bench.chip.edition().map_or("no edition", Edition::name);
+            Ok(started.map(|()| format!("{from}, an {edition}")))
+        })
     }
 
     /// The host address for a word: an address as it is, or the one that reaches a register by its name, for which Page may have to be written.

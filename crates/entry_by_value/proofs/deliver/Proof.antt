@@ -9,7 +9,7 @@ deliver-requires c κs = search needs
 
 returns : tie.Need-returns
 returns c =
-    let place = c .before .before .before .before .before .before .before .before .before .before .before .before .before .before .before .before in
+    let place = c .before .before .before .before .before .before .before .before .before .before .before .before .before .before .before .before .before in
     let chip = place .args .chip in
     c .deliver .ensures chip (whole-chip chip (place .good .0 .1 .1)) .0
 

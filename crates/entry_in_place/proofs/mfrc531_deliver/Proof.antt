@@ -7,7 +7,7 @@ use contract.Running.{givenOf, tables, tablesOf}
 use denote.Triple.Spec.{tripleOf}
 use denote.Triple.Table.{entered, cited}
 use Rattle.machine.specs.Refusals.{deliver}
-use Rattle.state.specs.Lent.{clocksNumbersStateRegistersSlots}
+use Rattle.state.specs.Lent.{clocksNumbersStateRegistersSlotsEeprom}
 use Rattle.state.specs.declared.Chip.{Chip}
 use Rattle.state.specs.Meets.{Meets, Promises}
 use Rattle.event_frame_deliver.proofs.deliver as g
@@ -24,7 +24,7 @@ use Rattle.entry_in_place.proofs.mfrc531_deliver.Code as code
 
 -- How each array is lent, and the parameters beside the chip.
 abbrev ds : Ways ns
-ds = (lends mut, (lends imm, (lends mut, (lends imm, (lends mut, (keeps, (keeps, (keeps, tt))))))))
+ds = (lends mut, (lends imm, (lends mut, (lends imm, (lends mut, (keeps, (keeps, (lends imm, tt))))))))
 
 abbrev ps : List (Beside 2)
 ps = shared 0 tt ∷ shared 1 tt ∷ scalar w8 ∷ []
@@ -33,8 +33,8 @@ ps = shared 0 tt ∷ shared 1 tt ∷ scalar w8 ∷ []
 abbrev Φ : Relation ps
 Φ κs h a h′ ws r =
     (c : Chip) →
-    Promises (clocksNumbersStateRegistersSlots (h .clocks) (h .numbers) (h .state) (h .registers) (h .slots) c) (deliver (a .0 .now) (a .1 .0 .now) (a .1 .1 .0))
-    (clocksNumbersStateRegistersSlots (h′ .clocks) (h′ .numbers) (h′ .state) (h′ .registers) (h′ .slots) c) r []
+    Promises (clocksNumbersStateRegistersSlotsEeprom (h .clocks) (h .numbers) (h .state) (h .registers) (h .slots) (h .eeprom) c) (deliver (a .0 .now) (a .1 .0 .now) (a .1 .1 .0))
+    (clocksNumbersStateRegistersSlotsEeprom (h′ .clocks) (h′ .numbers) (h′ .state) (h′ .registers) (h′ .slots) (h′ .eeprom) c) r []
 
 abbrev Ψ : Relation ps
 Ψ κs h a h′ ws r = Meets h (deliver (a .0 .now) (a .1 .0 .now) (a .1 .1 .0)) h′ r []

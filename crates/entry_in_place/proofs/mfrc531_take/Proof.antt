@@ -7,7 +7,7 @@ use contract.Running.{givenOf, tables, tablesOf}
 use denote.Triple.Spec.{tripleOf}
 use denote.Triple.Table.{entered, cited}
 use Rattle.machine.specs.Refusals.{takeFrame}
-use Rattle.state.specs.Lent.{clocksNumbersStateRegistersSlots}
+use Rattle.state.specs.Lent.{clocksNumbersStateRegistersSlotsEeprom}
 use Rattle.state.specs.declared.Chip.{Chip}
 use Rattle.state.specs.Meets.{Meets, Promises}
 use Rattle.event_frame_take.proofs.take as g
@@ -24,7 +24,7 @@ use Rattle.entry_in_place.proofs.mfrc531_take.Code as code
 
 -- How each array is lent, and the parameters beside the chip.
 abbrev ds : Ways ns
-ds = (lends mut, (lends imm, (lends mut, (lends imm, (lends imm, (keeps, (keeps, (keeps, tt))))))))
+ds = (lends mut, (lends imm, (lends mut, (lends imm, (lends imm, (keeps, (keeps, (lends imm, tt))))))))
 
 abbrev ps : List (Beside 1)
 ps = lent 0 tt ∷ []
@@ -33,8 +33,8 @@ ps = lent 0 tt ∷ []
 abbrev Φ : Relation ps
 Φ κs h a h′ ws r =
     (c : Chip) →
-    Promises (clocksNumbersStateRegistersSlots (h .clocks) (h .numbers) (h .state) (h .registers) (h .slots) c) (takeFrame (a .0 .now))
-    (clocksNumbersStateRegistersSlots (h′ .clocks) (h′ .numbers) (h′ .state) (h′ .registers) (h′ .slots) c) r (ws .0)
+    Promises (clocksNumbersStateRegistersSlotsEeprom (h .clocks) (h .numbers) (h .state) (h .registers) (h .slots) (h .eeprom) c) (takeFrame (a .0 .now))
+    (clocksNumbersStateRegistersSlotsEeprom (h′ .clocks) (h′ .numbers) (h′ .state) (h′ .registers) (h′ .slots) (h′ .eeprom) c) r (ws .0)
 
 abbrev Ψ : Relation ps
 Ψ κs h a h′ ws r = Meets h (takeFrame (a .0 .now)) h′ r (ws .0)

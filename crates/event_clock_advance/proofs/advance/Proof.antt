@@ -18,7 +18,7 @@ use Rattle.state.proofs.MeetLaws.{malformed, advance-refusal, own-fields-formed
 use Rattle.state.proofs.TurnLaws.{then, becomes}
 use Rattle.state_fifo.specs.Alerts.{alertedFrom}
 use Rattle.state_fifo.proofs.AlertLaws.{alerted-from}
-use Rattle.state_formed.proofs.ClauseLaws.{usual-formed}
+use Rattle.state_formed.proofs.ClauseLaws.{quickly-formed}
 use borrow.Author.Needs.{needs}
 use Rattle.event_clock_advance.specs.Clock.{clockedIn}
 use Rattle.event_clock_advance.proofs.advance.Statement.{statement}
@@ -27,6 +27,9 @@ use Rattle.event_clock_advance.proofs.advance.Tie as tie
 quick-requires : tie.Need-quick-requires
 quick-requires c κs = search needs
 
+of-own-edition-requires : tie.Need-of-own-edition-requires
+of-own-edition-requires c κs = search needs
+
 formed-requires : tie.Need-formed-requires
 formed-requires c κs = search needs
 
@@ -34,20 +37,24 @@ abbrev at-entry : tie.Start → Chip
 at-entry s =
     let a = s .args in assembled (now (a .clocks)) (now (a .numbers)) (now (a .state)) (now (a .registers)) (now (a .slots)) (now (a .latch)) (now (a .key)) (now (a .eeprom))
 
--- Past the quick test, or past every clause: where the function began, and that the chip is well formed.
+-- Past the quick tests, or past every clause: where the function began, and that the chip is well formed.
+abbrev entered : tie.After-of-own-edition → tie.Start
+entered asked = asked .before .before .before .before .before .before .before
+
 abbrev began : tie.Joined1 → tie.Start
-began past = past .before .before .before .before .before
+began past = entered (past .before)
 
 well-formed : (past : tie.Joined1) → Whole (at-entry (began past)) → chipFormed (at-entry (began past)) ≡ true
 well-formed past whole =
-    let old = at-entry (began past) in
-    ⊎-elim (λ x. sym (x .4 .ensures old (whole .sizes)) ∙ not-false _ (x .5 .left))
-    (λ x. usual-formed old (whole .sizes) (sym (past .before .quick .ensures old) ∙ not-false _ (x .left)))
+    let asked = past .before in
+    let old = at-entry (entered asked) in
+    ⊎-elim (λ x. sym (x .5 .ensures old (whole .sizes)) ∙ not-false _ (x .6 .left))
+    (λ x. quickly-formed old (whole .sizes) (asked .before .before .before .quick .ensures old) (asked .of-own-edition .ensures) (x .left))
     (past .if1 .came)
 
 returns : tie.Need-returns
 returns c whole =
-    let s = c .before .before .before .before .before .before .before .before .before .before in
+    let s = entered (c .before .before .before .before .before .before .before) in
     let old = at-entry s in
     malformed old (advance (s .args .by)) tt (sym (c .before .formed .ensures old (whole .sizes)) ∙ not-true _ (c .if2 .taken)) whole
 
@@ -83,4 +90,4 @@ returns-2 c whole =
     (record { answered = refl; turned = turned .machine; lent = refl; fields = turned .fields agrees; sizes = turned .sizes })
 
 pub advance-spec : {M : Type 1} → statement M
-advance-spec = tie.close (tie.spec quick-requires formed-requires returns alerts-of-requires clocked-times-requires alerted-requires returns-2)
+advance-spec = tie.close (tie.spec quick-requires of-own-edition-requires formed-requires returns alerts-of-requires clocked-times-requires alerted-requires returns-2)

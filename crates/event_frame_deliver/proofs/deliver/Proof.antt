@@ -8,7 +8,7 @@ use mathlib.Core.List.{[]}
 use Rattle.machine.specs.Frames.{receiving}
 use Rattle.machine.specs.Refusals.{Call, deliver, refusal, refuseIf}
 use Rattle.state.specs.View.{view, withState, withSlots}
-use Rattle.state.specs.Lent.{clocksState, clocksNumbersStateRegistersSlots}
+use Rattle.state.specs.Lent.{clocksState, clocksNumbersStateRegistersSlotsEeprom}
 use Rattle.state.specs.Formed.{chipFormed}
 use Rattle.state.specs.Meets.{chipRefusal, Whole}
 use Rattle.state.specs.declared.Chip.{Chip}
@@ -39,7 +39,7 @@ alerted-requires c κs = search needs
 
 -- The chip, and the call, where the function began.
 abbrev at-entry : tie.Start → Chip → Chip
-at-entry s = let a = s .args in clocksNumbersStateRegistersSlots (now (a .clocks)) (now (a .numbers)) (now (a .state)) (now (a .registers)) (now (a .slots))
+at-entry s = let a = s .args in clocksNumbersStateRegistersSlotsEeprom (now (a .clocks)) (now (a .numbers)) (now (a .state)) (now (a .registers)) (now (a .slots)) (now (a .eeprom))
 
 abbrev called : tie.Start → Call
 called s = let a = s .args in deliver (now (a .bytes)) (now (a .parities)) (a .last-bits)

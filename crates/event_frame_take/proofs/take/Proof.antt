@@ -10,7 +10,7 @@ use Rattle.machine.specs.Refusals.{takeFrame}
 use Rattle.machine.specs.Events.{bufferTaken}
 use Rattle.state.specs.View.{at, viewOf, withClocks, withState}
 use Rattle.state.specs.Formed.{chipFormed}
-use Rattle.state.specs.Lent.{clocksNumbersStateRegistersSlots}
+use Rattle.state.specs.Lent.{clocksNumbersStateRegistersSlotsEeprom}
 use Rattle.state.specs.Meets.{Whole}
 use Rattle.state.specs.declared.Chip.{Chip}
 use Rattle.state.proofs.MeetLaws.{refused, malformed, take-short, take-judged, own-fields-formed, few-held, accepted-here}
@@ -20,7 +20,7 @@ use Rattle.event_frame_take.proofs.take.Tie as tie
 
 -- The chip as the function was lent it.
 abbrev at-entry : tie.Start → Chip → Chip
-at-entry s = let a = s .args in clocksNumbersStateRegistersSlots (now (a .clocks)) (now (a .numbers)) (now (a .state)) (now (a .registers)) (now (a .slots))
+at-entry s = let a = s .args in clocksNumbersStateRegistersSlotsEeprom (now (a .clocks)) (now (a .numbers)) (now (a .state)) (now (a .registers)) (now (a .slots)) (now (a .eeprom))
 
 -- The chip has been judged: where the function began, and, past the test, that the chip is well formed.
 abbrev entered : tie.After-formed → tie.Start

@@ -10,30 +10,34 @@ use Rattle.machine.specs.Refusals.{hostRead, refuseIf}
 use Rattle.machine.specs.Registers.{registerRead}
 use Rattle.state.specs.View.{view, viewOf, withState}
 use Rattle.state.specs.Formed.{chipFormed}
-use Rattle.state.specs.Lent.{clocksNumbersStateRegistersSlots}
+use Rattle.state.specs.Lent.{clocksNumbersStateRegistersSlotsEeprom}
 use Rattle.state.specs.Meets.{Whole}
 use Rattle.state.specs.declared.Chip.{Chip}
 use Rattle.state.proofs.MeetLaws.{refused, malformed, read-refusal}
-use Rattle.state_formed.proofs.ClauseLaws.{usual-formed}
+use Rattle.state_formed.proofs.ClauseLaws.{quickly-formed}
 use Rattle.event_host_read.proofs.ReadLaws.{read-as, Passes, read-removes, read-leaves}
 use Rattle.event_host_read.proofs.host_read.Statement.{statement}
 use Rattle.event_host_read.proofs.host_read.Tie as tie
 
 -- The chip at entry.
 abbrev at-entry : tie.Start → Chip → Chip
-at-entry s = let a = s .args in clocksNumbersStateRegistersSlots (now (a .clocks)) (now (a .numbers)) (now (a .state)) (now (a .registers)) (now (a .slots))
+at-entry s = let a = s .args in clocksNumbersStateRegistersSlotsEeprom (now (a .clocks)) (now (a .numbers)) (now (a .state)) (now (a .registers)) (now (a .slots)) (now (a .eeprom))
 
--- Past the quick test, or past every clause, it is well formed.
-well-formed : (past : tie.Joined1) (chip : Chip) → Whole (at-entry (past .before .before .before) chip) → chipFormed (at-entry (past .before .before .before) chip) ≡ true
+-- Past the quick tests, or past every clause, it is well formed.
+abbrev entered : tie.After-of-own-edition → tie.Start
+entered asked = asked .before .before .before .before
+
+well-formed : (past : tie.Joined1) (chip : Chip) → Whole (at-entry (entered (past .before)) chip) → chipFormed (at-entry (entered (past .before)) chip) ≡ true
 well-formed past chip whole =
-    let old = at-entry (past .before .before .before) chip in
+    let asked = past .before in
+    let old = at-entry (entered asked) chip in
     ⊎-elim (λ x. sym (x .2 .ensures old (whole .sizes)) ∙ not-false _ (x .3 .left))
-    (λ x. usual-formed old (whole .sizes) (sym (past .before .quick .ensures old) ∙ not-false _ (x .left)))
+    (λ x. quickly-formed old (whole .sizes) (asked .before .before .quick .ensures old) (asked .of-own-edition .ensures) (x .left))
     (past .if1 .came)
 
 -- Past the address's test too, with the register found.
 abbrev began : tie.After-mapped → tie.Start
-began found = found .before .before .before .before .before .before
+began found = entered (found .before .before .before .before)
 
 passes : (found : tie.After-mapped) (chip : Chip) → Whole (at-entry (began found) chip) → Passes (at-entry (began found) chip) (began found .args .address) (found .mapped .result)
 unfolding viewOf
@@ -44,17 +48,20 @@ passes found chip whole =
 quick-requires : tie.Need-quick-requires
 quick-requires c κs = search needs
 
+of-own-edition-requires : tie.Need-of-own-edition-requires
+of-own-edition-requires c κs = search needs
+
 formed-requires : tie.Need-formed-requires
 formed-requires c κs = search needs
 
 returns : tie.Need-returns
 returns c chip whole =
-    let old = at-entry (c .before .before .before .before .before .before) chip in
+    let old = at-entry (entered (c .before .before .before .before)) chip in
     malformed old (hostRead _) tt (sym (c .before .formed .ensures old (whole .sizes)) ∙ not-true _ (c .if2 .taken)) whole
 
 returns-2 : tie.Need-returns-2
 returns-2 c chip whole =
-    let start = c .before .before .before .before in
+    let start = entered (c .before .before) in
     let old = at-entry start chip in
     let address = start .args .address in
     refused old (hostRead _) 0
@@ -123,6 +130,7 @@ host-read-spec =
     tie.close
     (tie.spec
     quick-requires
+    of-own-edition-requires
     formed-requires
     returns
     returns-2

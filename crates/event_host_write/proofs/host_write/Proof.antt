@@ -14,7 +14,7 @@ use Rattle.state.specs.Meets.{Whole}
 use Rattle.state.specs.declared.Chip.{Chip}
 use Rattle.state.proofs.RingLaws.{count-length}
 use Rattle.state.proofs.MeetLaws.{refused, malformed, write-refusal}
-use Rattle.state_formed.proofs.ClauseLaws.{usual-formed}
+use Rattle.state_formed.proofs.ClauseLaws.{quickly-formed}
 use Rattle.event_host_write.proofs.WriteLaws.{Passes, data-worked, data-summed, data-waits, command-worked, command-begins, other-wrote}
 use Rattle.event_host_write.proofs.host_write.Statement.{statement}
 use Rattle.event_host_write.proofs.host_write.Tie as tie
@@ -26,15 +26,16 @@ at-entry s = let a = s .args in assembled (now (a .clocks)) (now (a .numbers)) (
 abbrev called : tie.Start → Call
 called s = hostWrite (s .args .address) (s .args .v)
 
--- Past the quick test, or past every clause, it is well formed.
-abbrev entered : tie.After-quick → tie.Start
-entered call = call .before .before .before .before
+-- Past the quick tests, or past every clause, it is well formed.
+abbrev entered : tie.After-of-own-edition → tie.Start
+entered asked = asked .before .before .before .before .before .before
 
 well-formed : (past : tie.Joined1) → Whole (at-entry (entered (past .before))) → chipFormed (at-entry (entered (past .before))) ≡ true
 well-formed past whole =
-    let old = at-entry (entered (past .before)) in
+    let asked = past .before in
+    let old = at-entry (entered asked) in
     ⊎-elim (λ x. sym (x .4 .ensures old (whole .sizes)) ∙ not-false _ (x .5 .left))
-    (λ x. usual-formed old (whole .sizes) (sym (past .before .quick .ensures old) ∙ not-false _ (x .left)))
+    (λ x. quickly-formed old (whole .sizes) (asked .before .before .quick .ensures old) (asked .of-own-edition .ensures) (x .left))
     (past .if1 .came)
 
 -- Past the address's test too, with the register found.
@@ -50,6 +51,9 @@ passes found whole =
 
 quick-requires : tie.Need-quick-requires
 quick-requires c κs = search needs
+
+of-own-edition-requires : tie.Need-of-own-edition-requires
+of-own-edition-requires c κs = search needs
 
 formed-requires : tie.Need-formed-requires
 formed-requires c κs = search needs
@@ -167,6 +171,7 @@ host-write-spec =
     tie.close
     (tie.spec
     quick-requires
+    of-own-edition-requires
     formed-requires
     returns
     returns-2

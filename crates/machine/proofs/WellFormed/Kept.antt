@@ -7,21 +7,24 @@ use mathlib.Core.List.{List, [], _∷_}
 use lib.Dec.{leb, eqb, eqb·suc-zero}
 use lib.ListN.{length}
 use borrow.Author.Tests.{eqb-true, leb-true}
+use Rattle.edition.specs.Edition.{isOf, ofEither}
+use Rattle.edition.proofs.Laws.{own-type}
 use Rattle.machine.specs.State.{Machine}
 use Rattle.machine.specs.Registers.{mapped}
-use Rattle.machine.specs.WellFormed.{wellFormed, fifoFormed}
+use Rattle.machine.specs.WellFormed.{wellFormed}
 use Rattle.machine.specs.Refusals.{Call, start, hostRead, hostWrite, advance, takeFrame, deliver, ByteCall, allBits, frameFormed, refusal}
-use Rattle.machine.specs.Events.{Outcome, refused, bufferOf, accepted, perform, afterCalls, afterRead, started}
+use Rattle.machine.specs.Events.{Outcome, refused, bufferOf, accepted, perform, afterCalls, afterRead, started, clocks}
 use Rattle.machine.specs.WellFormedness.{Formed, EachByteCall, WellFormedness}
 use Rattle.machine.proofs.Cases.{by-cond}
-use Rattle.machine.proofs.WellFormed.Parts.{Good, each, good-formed, formed-good}
+use Rattle.machine.proofs.WellFormed.Parts.{Good, each, good-formed, formed-good, well-edition, well-held}
 use Rattle.machine.proofs.Performing.{passed-test, not-false}
-use Rattle.machine.proofs.WellFormed.Events.{started-good, written-good, after-read-good, advanced-good, taken-good, delivered-good}
+use Rattle.machine.proofs.WellFormed.Events.{started-good, written-good, after-read-good, clocks-good, advanced-good, taken-good, delivered-good}
+use Rattle.machine.proofs.Editions.Kept.{keeps-type, clocks-kept, accepted-kept}
 
 -- A call that is not refused leads to a good machine.
 accepted-good : (m : Machine) (c : Call) → ByteCall c → refusal m c ≡ 0 → Good m → Good (accepted m c .next)
 unfolding refusal
-accepted-good m (start image) w e g = started-good image w (eqb-true (length image) 512 (not-false _ (passed-test (not (eqb (length image) 512)) 1 0 e .0)))
+accepted-good m (start image) w e g = started-good image w (eqb-true (length image) 512 (not-false _ (passed-test (not (eqb (length image) 512)) 1 _ e .0)))
 accepted-good m (hostRead address) w e g = after-read-good address m g
 accepted-good m (hostWrite address v) w e g = written-good address v m w g
 accepted-good m (advance n) w e g = advanced-good n m g
@@ -34,12 +37,26 @@ accepted-good m (deliver bytes parities lastBits) w e g =
     let (same, h₃) = each (eqb (length parities) (length bytes)) _ h₂ in
     let (flags, few) = each (allBits parities) _ h₃ in delivered-good bytes parities lastBits m w (leb-true lastBits 7 few) g
 
+-- And its memory is of its edition.
+accepted-type : (m : Machine) (c : Call) → refusal m c ≡ 0 → Good m → isOf (m .edition) (m .eeprom) ≡ true → isOf (accepted m c .next .edition) (accepted m c .next .eeprom) ≡ true
+unfolding refusal started
+accepted-type m (start image) e g own =
+    own-type image (not-false _ (passed-test (not (ofEither image)) 21 0 (passed-test (not (eqb (length image) 512)) 1 _ e .1) .0))
+accepted-type m (hostRead address) e g own = keeps-type (accepted-kept m (hostRead address) refl g) own
+accepted-type m (hostWrite address v) e g own = keeps-type (accepted-kept m (hostWrite address v) refl g) own
+accepted-type m (advance n) e g own = keeps-type (accepted-kept m (advance n) refl g) own
+accepted-type m (takeFrame buffer) e g own = keeps-type (accepted-kept m (takeFrame buffer) refl g) own
+accepted-type m (deliver bytes parities lastBits) e g own = keeps-type (accepted-kept m (deliver bytes parities lastBits) refl g) own
+
 -- Any call.
 kept : (m : Machine) (c : Call) → ByteCall c → Formed m → Formed (perform m c .next)
 unfolding perform
 kept m c w f =
     by-cond (λ (o : Outcome). Formed (o .next)) (eqb (refusal m c) 0) (accepted m c) _
-    (λ e. good-formed (accepted m c .next) (accepted-good m c w (eqb-true (refusal m c) 0 e) (formed-good m f)))
+    (λ e.
+    let passed = eqb-true (refusal m c) 0 e in
+    let good = formed-good m f in
+    good-formed (accepted m c .next) (accepted-good m c w passed good) (accepted-type m c passed good (well-edition m (f .well))))
     (λ e. f)
 
 -- Any list of calls.
@@ -58,15 +75,20 @@ plain-read : (m : Machine) (address : ℕ) → eqb (mapped (m .page) address) 0x
 unfolding perform afterRead
 plain-read m address h = by-cond (λ (o : Outcome). o .next ≡ m) (eqb (refusal m (hostRead address)) 0) _ _ (λ e. rw h) (λ e. refl)
 
+-- Any number of clocks.
+pub clocks-formed : (n : ℕ) (m : Machine) → Formed m → Formed (clocks n m)
+clocks-formed n m f =
+    let good = formed-good m f in good-formed (clocks n m) (clocks-good n m good) (keeps-type (clocks-kept m n good) (well-edition m (f .well)))
+
 -- The statement.
 pub well-formedness : WellFormedness
-unfolding wellFormed
+unfolding started
 well-formedness =
     record {
-      starts = λ image w sized. good-formed (started image) (started-good image w sized);
+      starts = λ image w sized either. good-formed (started image) (started-good image w sized) (own-type image either);
       kept = kept;
       always = always;
       refused-changes-nothing = refused-keeps;
       plain-read = plain-read;
-      held-at-most-64 = λ m h. leb-true (length (m .held)) 64 (each (fifoFormed (m .held)) _ h .0);
+      held-at-most-64 = well-held;
     }

@@ -8,6 +8,7 @@ use lib.Dec.{leb}
 use lib.ListN.{length}
 use borrow.Author.Tests.{leb-true, le-leb}
 use Rattle.bits.specs.Bits.{Bytes}
+use Rattle.edition.specs.Edition.{isOf}
 use Rattle.machine.specs.State.{Machine, Command, Timer, Checksum, WriteE2, programming}
 use Rattle.machine.specs.WellFormed.{fifoFormed, nothingPends, timerFormed, commandFormed, checksumFormed, bitsFormed, waits, latchedBytes, wellFormed}
 use Rattle.machine.specs.WellFormedness.{Formed}
@@ -20,19 +21,32 @@ pub each : (a b : Bool) → (a && b) ≡ true → (a ≡ true) × (b ≡ true)
 each true b h = (refl, h)
 each false b h = absurd (false≢true h)
 
--- What a machine that is well formed has of it: at most 64 bytes held, a timer and a command that are formed.
+-- The clauses that follow those on the edition and the FIFO.
+abbrev pub othersFormed : Machine → Bool
+othersFormed m =
+    timerFormed (m .timer)
+    && (commandFormed (m .command)
+    && (nothingPends (m .command) (m .held) && (checksumFormed (m .checksum) && bitsFormed (m .page) (m .status .control) (m .status .rxLastBits))))
+
+-- What a machine that is well formed has of it: a memory of its edition, at most 64 bytes held, a timer and a command that are formed.
 module _ (m : Machine) (well : wellFormed m ≡ true) where
+  pub well-edition : isOf (m .edition) (m .eeprom) ≡ true
+  unfolding wellFormed
+  well-edition = each (isOf (m .edition) (m .eeprom)) _ well .0
+
   pub well-held : length (m .held) ≤ 64
   unfolding wellFormed
-  well-held = leb-true (length (m .held)) 64 (each (fifoFormed (m .held)) _ well .0)
+  well-held = leb-true (length (m .held)) 64 (each (fifoFormed (m .held)) _ (each (isOf (m .edition) (m .eeprom)) _ well .1) .0)
+
+  pub well-others : othersFormed m ≡ true
+  unfolding wellFormed
+  well-others = each (fifoFormed (m .held)) _ (each (isOf (m .edition) (m .eeprom)) _ well .1) .1
 
   pub well-timer : timerFormed (m .timer) ≡ true
-  unfolding wellFormed
-  well-timer = each (timerFormed (m .timer)) _ (each (fifoFormed (m .held)) _ well .1) .0
+  well-timer = each (timerFormed (m .timer)) _ well-others .0
 
   pub well-command : commandFormed (m .command) ≡ true
-  unfolding wellFormed
-  well-command = each (commandFormed (m .command)) _ (each (timerFormed (m .timer)) _ (each (fifoFormed (m .held)) _ well .1) .1) .0
+  well-command = each (commandFormed (m .command)) _ (each (timerFormed (m .timer)) _ well-others .1) .0
 
   -- a programming has a clock left
   pub some-left : (a left : ℕ) (bs : List ℕ) → m .command ≡ WriteE2 (programming a bs left) → 1 ≤ left
@@ -78,22 +92,23 @@ keep m a = record { parts = a }
 abbrev pub Rests : Machine → Type 0
 Rests m = length (m .held) ≤ waits (m .command)
 
--- A well-formed machine.
+-- A well-formed machine, but for what is asked of its edition.
 abbrev pub Good : Machine → Type 0
 Good m = Almost m × Rests m
 
--- It is what being well formed says, both ways.
-pub good-formed : (m : Machine) → Good m → Formed m
+-- With a memory of its edition, it is what being well formed says, both ways.
+pub good-formed : (m : Machine) → Good m → isOf (m .edition) (m .eeprom) ≡ true → Formed m
 unfolding wellFormed
-good-formed m (a, r) =
+good-formed m (a, r) own =
     record {
       well =
-          both (le-leb (length (m .held)) 64 (a .held .fits))
+          both own
+          (both (le-leb (length (m .held)) 64 (a .held .fits))
           (both (a .timer)
           (both (a .command .formed)
           (both (le-leb (length (m .held)) (waits (m .command)) r)
           (both (a .checksum)
-          (a .bits)))));
+          (a .bits))))));
       sized =
           record {
             held-bytes = a .held .bytes;
@@ -106,17 +121,15 @@ good-formed m (a, r) =
     }
 
 pub formed-good : (m : Machine) → Formed m → Good m
-unfolding wellFormed
 formed-good m f =
-    let (fifo, h₁) = each (fifoFormed (m .held)) _ (f .well) in
-    let (timed, h₂) = each (timerFormed (m .timer)) _ h₁ in
+    let (timed, h₂) = each (timerFormed (m .timer)) _ (well-others m (f .well)) in
     let (commanded, h₃) = each (commandFormed (m .command)) _ h₂ in
     let (rests, h₄) = each (nothingPends (m .command) (m .held)) _ h₃ in
     let (summed, bits) = each (checksumFormed (m .checksum)) _ h₄ in (
       record {
         bits = bits;
         command = record { formed = commanded; latched = f .sized .latched-bytes };
-        held = record { fits = leb-true (length (m .held)) 64 fifo; bytes = f .sized .held-bytes };
+        held = record { fits = well-held m (f .well); bytes = f .sized .held-bytes };
         timer = timed;
         checksum = summed;
         registers = record { bytes = f .sized .register-bytes; count = f .sized .register-count };

@@ -7,7 +7,8 @@ use mathlib.Core.List.{List}
 use Prim.Native.Nat.{ℕ, _+_, _-_, _≤_, _<_}
 use native.Mathlib.Omega.{arith}
 use Rattle.profile.specs.Answer.{Answer, refuse-bit, isPass, orElse, answerOf, refusalAnswer}
-use Rattle.profile.specs.FixedBits.{fixedBits}
+use Rattle.edition.specs.Edition.{fixedBits}
+use Rattle.edition.specs.declared.FixedBits.{FixedBits}
 use Rattle.profile.specs.Check.{firstRefusal, bitJudged, fixedBitsJudged, valueJudged, registerJudged, judged}
 use Rattle.profile.specs.declared.Verdict.the-variants.{Pass}
 use Rattle.profile.proofs.Laws.{none-left, passes, stops, refusal-fails, bit-passes, bit-refuses, bits-pass}
@@ -15,18 +16,18 @@ use Rattle.profile.proofs.check.Statement.{statement}
 use Rattle.profile.proofs.check.Tie as tie
 
 abbrev Inv-loop : tie.InvT-loop
-Inv-loop profile position register fixed byte bit₀ bit =
-    (bit ≤ 8) × (firstRefusal (bitJudged fixedBits profile register) (8 - bit) bit ≡ fixedBitsJudged fixedBits profile register)
+Inv-loop edition profile position register fixed byte bit₀ bit =
+    (bit ≤ 8) × (firstRefusal (bitJudged (fixedBits edition) profile register) (8 - bit) bit ≡ fixedBitsJudged (fixedBits edition) profile register)
 
 abbrev μ-loop : tie.MeasureT-loop
-μ-loop profile position register fixed byte bit₀ bit = 8 - bit
+μ-loop edition profile position register fixed byte bit₀ bit = 8 - bit
 
 abbrev Inv-registers : tie.InvT-registers
-Inv-registers profile verdict₀ position₀ verdict position =
-    (position ≤ 32) × (verdict ≡ Pass) × (firstRefusal (registerJudged fixedBits profile) (32 - position) (0x10 + position) ≡ judged fixedBits profile)
+Inv-registers edition profile verdict₀ position₀ verdict position =
+    (position ≤ 32) × (verdict ≡ Pass) × (firstRefusal (registerJudged (fixedBits edition) profile) (32 - position) (0x10 + position) ≡ judged (fixedBits edition) profile)
 
 abbrev μ-registers : tie.MeasureT-registers
-μ-registers profile verdict₀ position₀ verdict position = 32 - position
+μ-registers edition profile verdict₀ position₀ verdict position = 32 - position
 
 -- What is known at each turn of the loop over bits, of the register that it is for.
 module _ (turn : tie.At-loop Inv-loop μ-loop Inv-registers μ-registers) where
@@ -36,18 +37,21 @@ module _ (turn : tie.At-loop Inv-loop μ-loop Inv-registers μ-registers) where
   abbrev profile : List ℕ
   profile = row .before .before .before .args .profile .now
 
+  abbrev table : List FixedBits
+  table = fixedBits (row .before .before .before .args .edition)
+
   abbrev register : ℕ
   register = 0x10 + row .registers .position
 
   -- the register's verdict is the whole's, where it is a refusal
-  refused : (a : Answer) → row .registers .position < 32 → registerJudged fixedBits profile register ≡ a → isPass a ≡ false → a ≡ judged fixedBits profile
+  refused : (a : Answer) → row .registers .position < 32 → registerJudged table profile register ≡ a → isPass a ≡ false → a ≡ judged table profile
   refused a h is refuses =
-      sym (stops (registerJudged fixedBits profile) (32 - row .registers .position) register a (omega arith) is refuses)
+      sym (stops (registerJudged table profile) (32 - row .registers .position) register a (omega arith) is refuses)
       ∙ row .registers .inv .2
 
   -- and the values' verdict is the register's, where all its bits hold
-  by-value : 8 ≤ turn .loop .bit → registerJudged fixedBits profile register ≡ valueJudged profile register
-  by-value h = bits-pass fixedBits profile (row .registers .position) (turn .loop .bit) h (turn .loop .inv .1)
+  by-value : 8 ≤ turn .loop .bit → registerJudged table profile register ≡ valueJudged profile register
+  by-value h = bits-pass table profile (row .registers .position) (turn .loop .bit) h (turn .loop .inv .1)
 
 returns : tie.Need-returns Inv-loop μ-loop Inv-registers μ-registers
 unfolding judged
@@ -85,8 +89,8 @@ loop-again : tie.Need-loop-again Inv-loop μ-loop Inv-registers μ-registers
 loop-again c =
     let turn = c .before .before .before in (
       search needs,
-      passes (bitJudged fixedBits (profile turn) (register turn)) (omega arith) refl
-          (bit-passes fixedBits (profile turn) (row turn .registers .position) (turn .before .before .fixed-bits .result) (turn .loop .bit)
+      passes (bitJudged (table turn) (profile turn) (register turn)) (omega arith) refl
+          (bit-passes (table turn) (profile turn) (row turn .registers .position) (turn .before .before .fixed-bits .result) (turn .loop .bit)
           (turn .before .before .fixed-bits .ensures) (sym (c .before .differs .ensures) ∙ c .if2 .left))
           ∙ turn .loop .inv .1,
     )
@@ -111,7 +115,7 @@ registers-again c =
     let turn = c .before .before .before .before in (
       search needs,
       c .enum-told .given .1,
-      passes (registerJudged fixedBits (profile turn)) (omega arith) (omega arith)
+      passes (registerJudged (table turn) (profile turn)) (omega arith) (omega arith)
           (by-value turn (search needs) ∙ sym (c .before .before .value-verdict .ensures) ∙ ap answerOf (c .enum-told .given .1))
           ∙ row turn .registers .inv .2,
     )
@@ -121,16 +125,16 @@ returns-2 c =
     let end = c .before in
     let profile = end .before .before .before .args .profile .now in
     ap answerOf (end .registers .inv .1)
-    ∙ sym (none-left (registerJudged fixedBits profile) (32 - end .registers .position) (0x10 + end .registers .position) (omega arith))
+    ∙ sym (none-left (registerJudged (fixedBits (end .before .before .before .args .edition)) profile) (32 - end .registers .position) (0x10 + end .registers .position) (omega arith))
     ∙ end .registers .inv .2
 
 returns-3 : tie.Need-returns-3 Inv-loop μ-loop Inv-registers μ-registers
 returns-3 c =
     let turn = c .before .before .before in
-    let bit : fixedBitsJudged fixedBits (profile turn) (register turn) ≡ refuse-bit 10 (register turn) (turn .loop .bit) =
+    let bit : fixedBitsJudged (table turn) (profile turn) (register turn) ≡ refuse-bit 10 (register turn) (turn .loop .bit) =
     sym (turn .loop .inv .1)
-    ∙ stops (bitJudged fixedBits (profile turn) (register turn)) (8 - turn .loop .bit) (turn .loop .bit) _ (omega arith)
-    (bit-refuses fixedBits (profile turn) (row turn .registers .position) (turn .before .before .fixed-bits .result) (turn .loop .bit)
+    ∙ stops (bitJudged (table turn) (profile turn) (register turn)) (8 - turn .loop .bit) (turn .loop .bit) _ (omega arith)
+    (bit-refuses (table turn) (profile turn) (row turn .registers .position) (turn .before .before .fixed-bits .result) (turn .loop .bit)
     (turn .before .before .fixed-bits .ensures) (sym (c .before .differs .ensures) ∙ c .if2 .taken))
     refl in
     refused turn _ (search needs) (ap (λ (a : Answer). orElse a (valueJudged (profile turn) (register turn))) bit) refl

@@ -105,7 +105,7 @@ returns-5 c chip sizes =
     let old = clocksStateRegisters (now (a .clocks)) (now (a .state)) (now (a .registers)) chip in
     let byte = c .marked-bits .result in
     quiet-write (a .register) (a .v)
-    (set-byte (withEnables (interruptsOf byte)) l 4 byte old (lit< tt) refl sizes refl (λ bytes. high-clear (at l 4) byte (c .marked-bits .ensures .1) (own-formed (at l) 9 4 (lit< tt) bytes)))
+    (set-byte (withEnables (interruptsOf byte)) l 4 byte old (lit< tt) refl sizes refl (λ bytes. high-clear (at l 4) byte (c .marked-bits .ensures .1) (own-formed (at l) 12 4 (lit< tt) bytes)))
     (ap (λ (x : Interrupts). withEnables x (view old)) (c .marked-bits .ensures .0) ∙ write-as (a .register) 0x06 (a .v) (view old) (arm .match .keys1)) refl refl
 
 returns-6 : tie.Need-returns-6
@@ -117,7 +117,7 @@ returns-6 c chip sizes =
     let old = clocksStateRegisters (now (a .clocks)) (now (a .state)) (now (a .registers)) chip in
     let byte = c .marked-bits2 .result in
     quiet-write (a .register) (a .v)
-    (set-byte (withRequests (interruptsOf byte)) l 6 byte old (lit< tt) refl sizes refl (λ bytes. high-clear (at l 6) byte (c .marked-bits2 .ensures .1) (own-formed (at l) 9 6 (lit< tt) bytes)))
+    (set-byte (withRequests (interruptsOf byte)) l 6 byte old (lit< tt) refl sizes refl (λ bytes. high-clear (at l 6) byte (c .marked-bits2 .ensures .1) (own-formed (at l) 12 6 (lit< tt) bytes)))
     (ap (λ (x : Interrupts). withRequests x (view old)) (c .marked-bits2 .ensures .0) ∙ write-as (a .register) 0x07 (a .v) (view old) (arm .match .keys2)) refl refl
 
 returns-7 : tie.Need-returns-7

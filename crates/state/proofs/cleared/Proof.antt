@@ -26,7 +26,7 @@ returns c chip sizes =
     let a = c .before .before .before .args in
     let l = now (a .state) in
     set-byte (unmarked (a .mask)) l 7 _ chip (lit< tt) refl sizes (errors-unmarked (at l 7) (a .mask) (view (withState l chip)) (omega arith) refl)
-    (λ bytes. errors-and (at l 7) _ (own-formed (at l) 9 7 (lit< tt) bytes))
+    (λ bytes. errors-and (at l 7) _ (own-formed (at l) 12 7 (lit< tt) bytes))
 
 returns-2 : tie.Need-returns-2
 unfolding viewOf

@@ -21,7 +21,7 @@ returns c chip sizes =
     let l = now (c .before .args .state) in
     let mask = c .before .args .mask in
     set-byte (marked mask) l 7 _ chip (lit< tt) refl sizes (errors-marked (at l 7) mask (view (withState l chip)) refl)
-    (λ bytes. errors-or (at l 7) mask (own-formed (at l) 9 7 (lit< tt) bytes))
+    (λ bytes. errors-or (at l 7) mask (own-formed (at l) 12 7 (lit< tt) bytes))
 
 pub failed-spec : {M : Type 1} → statement M
 failed-spec = tie.close (tie.spec element-copy-out-state element-write-state returns)

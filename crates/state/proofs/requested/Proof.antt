@@ -25,7 +25,7 @@ returns c chip sizes =
     let a = c .before .before .args in
     let l = now (a .state) in
     set-byte (raised (a .mask)) l 6 _ chip (lit< tt) refl sizes (requests-raised (at l 6) (a .mask) (view (withState l chip)) (omega arith) refl)
-    (λ bytes. requests-or (at l 6) _ (omega arith) (own-formed (at l) 9 6 (lit< tt) bytes))
+    (λ bytes. requests-or (at l 6) _ (omega arith) (own-formed (at l) 12 6 (lit< tt) bytes))
 
 returns-2 : tie.Need-returns-2
 unfolding viewOf

@@ -5,7 +5,7 @@ use mathlib.Core.Path.{sym, ap, _∙_}
 use lib.Dec.{ltb}
 use borrow.Author.Needs.{needs}
 use Rattle.state.specs.View.{at, heldCount}
-use Rattle.state.specs.Lent.{clocksNumbersState}
+use Rattle.state.specs.Lent.{clocksNumbersStateEeprom}
 use Rattle.state_clauses.proofs.ByteLaws.{joined}
 use Rattle.state_formed.proofs.ClauseLaws.{clauses}
 use Rattle.state_formed.proofs.formed.Statement.{statement}
@@ -89,9 +89,13 @@ element-copy-out-room-2 c = search needs
 room-requires : tie.Need-room-requires
 room-requires c κs = search needs
 
+of-own-edition-requires : tie.Need-of-own-edition-requires
+of-own-edition-requires c κs = search needs
+
 returns : tie.Need-returns
 returns c chip sizes =
-    let holding = c .before .before .before in
+    let room = c .before in
+    let holding = room .before .before .before in
     let writing = holding .before in
     let checksum = writing .before .before .before .before .before in
     let timer = checksum .before .before .before in
@@ -104,8 +108,10 @@ returns c chip sizes =
     (joined (timer .timer-formed .ensures)
     (joined (checksum .checksum-formed .ensures)
     (joined (writing .writing-formed .ensures)
-    (ap (λ (n : ℕ). ltb n (c .room .result)) (holding .held .ensures .counted) ∙ ap (ltb (heldCount (at state 13) (at state 14))) (c .room .ensures))))))
-    ∙ sym (clauses (clocksNumbersState (now (a .clocks)) (now (a .numbers)) state chip) (sizes .latch-count))
+    (joined
+    (ap (λ (n : ℕ). ltb n (room .room .result)) (holding .held .ensures .counted) ∙ ap (ltb (heldCount (at state 13) (at state 14))) (room .room .ensures))
+    (c .of-own-edition .ensures))))))
+    ∙ sym (clauses (clocksNumbersStateEeprom (now (a .clocks)) (now (a .numbers)) state (now (a .eeprom)) chip) (sizes .latch-count))
 
 pub formed-spec : {M : Type 1} → statement M
 formed-spec =
@@ -137,4 +143,5 @@ formed-spec =
     element-copy-out-room
     element-copy-out-room-2
     room-requires
+    of-own-edition-requires
     returns)

@@ -3,15 +3,14 @@ use borrow.Author.Needs.{needs}
 use denote.Ref.{now}
 use Prim.Native.Nat.{ℕ, _+_, _-_, _<_, _≤_}
 use native.Mathlib.Omega.{arith}
-use mathlib.Core.Path.{_≡_, refl, sym, ap, _∙_}
+use mathlib.Core.Path.{_≡_, refl, sym, ap, subst, _∙_}
 use mathlib.Core.Bool.{true}
 use lib.ListN.{take}
 use Rattle.machine.specs.State.{WriteE2, programming}
 use Rattle.machine.specs.Commands.{programs}
 use Rattle.machine.specs.WellFormedness.{Formed}
 use Rattle.machine.specs.Events.{clocks}
-use Rattle.machine.proofs.WellFormed.Parts.{formed-good}
-use Rattle.machine.proofs.WellFormed.Events.{clocks-good}
+use Rattle.machine.proofs.WellFormed.Kept.{clocks-formed}
 use Rattle.machine.proofs.ManyClocks.Pieces.{in-parts}
 use Rattle.state.specs.View.{at, batchStart, core, view, viewOf}
 use Rattle.state.specs.Lent.{clocksState}
@@ -21,7 +20,7 @@ use Rattle.state.specs.declared.Chip.{Chip}
 use Rattle.state.proofs.TurnLaws.{stays, then, becomes}
 use Rattle.event_clock_advance.specs.Clock.{clockedIn, TurnsFormed}
 use Rattle.event_clock_advance.proofs.BatchLaws.{programs-here, is-programming, is-idle, left-turns}
-use Rattle.event_clock_advance.proofs.ClockLaws.{formed-by, piece-rests, piece-ends, piece-goes-on, ends-here, goes-past, still-left}
+use Rattle.event_clock_advance.proofs.ClockLaws.{piece-rests, piece-ends, piece-goes-on, ends-here, goes-past, still-left}
 use Rattle.event_clock_advance.proofs.clock.clocked_times.Statement.{statement}
 use Rattle.event_clock_advance.proofs.clock.clocked_times.Tie as tie
 
@@ -64,7 +63,7 @@ module _ (turn : Turn) (chip : Chip) (sizes : Sizes (at-entry turn chip)) (forme
   agrees = so-far .fields formed
 
   well-here : Formed (view (here turn chip))
-  well-here = formed-by (so-far .machine) (clocks-good (by - rest) (view (at-entry turn chip)) (formed-good (view (at-entry turn chip)) well))
+  well-here = subst Formed (sym (so-far .machine)) (clocks-formed (by - rest) (view (at-entry turn chip)) well)
 
   -- so many more clocks
   further : {z : Chip} (n : ℕ) → n ≤ rest → Turned (clocks n) (here turn chip) z → Turned (clocks (by - (rest - n))) (at-entry turn chip) z

@@ -1,0 +1,2 @@
+pub mod FixedBits
+pub mod Edition

@@ -5,8 +5,10 @@ use native.Mathlib.Omega.{arith}
 use mathlib.Core.Path.{_≡_, refl, sym, ap, _∙_}
 use mathlib.Core.Bool.{Bool, true, false, cond, _||_, false≢true}
 use mathlib.Core.List.{List}
+use lib.Dec.{ltb}
 use lib.ListN.{getD, length, take, List·getD-eq-default}
 use lib.Seq.{getD-take}
+use borrow.Author.Tests.{ltb-true, ltb-false}
 use Rattle.edition.specs.Edition.{fixedBits, isOf, ofEither, editionOf}
 use Rattle.edition.specs.FixedBits.{fixed}
 use Rattle.edition.specs.declared.Edition.{Edition}
@@ -21,10 +23,17 @@ own-type image either = go (isOf Mfrc531 image) refl (isOf Rc530 image) refl
     go true ea false eb = ap (λ (t : Bool). isOf (cond t Rc530 Mfrc531) image) eb ∙ ea
     go false ea false eb = absurd (false≢true (sym (λ i. ea i || eb i) ∙ either))
 
--- Fewer than four bytes are of neither.
+-- Fewer than four bytes are of neither, so that what is of one has four.
 pub too-short : (e : Edition) (image : List ℕ) → length image < 4 → isOf e image ≡ false
 too-short Mfrc531 image short = rw (List·getD-eq-default image 0 {n = 3} (omega (arith, short)))
 too-short Rc530 image short = rw (List·getD-eq-default image 0 {n = 3} (omega (arith, short)))
+
+pub has-type : (e : Edition) (image : List ℕ) → isOf e image ≡ true → 4 ≤ length image
+has-type e image own = go (ltb (length image) 4) refl
+  where
+    go : (t : Bool) → ltb (length image) 4 ≡ t → 4 ≤ length image
+    go true short = absurd (false≢true (sym (too-short e image (ltb-true (length image) 4 short)) ∙ own))
+    go false enough = ltb-false (length image) 4 enough
 
 -- The first sixteen bytes decide it.
 pub by-block-0 : (e : Edition) (image : List ℕ) → isOf e (take 0x10 image) ≡ isOf e image

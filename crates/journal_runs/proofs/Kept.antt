@@ -111,7 +111,7 @@ ran image (next {s = x} call rest) s agrees same formed =
     }
 
 -- A start that answers 0 was not refused, so its image was whole.
-start-passed : (image : List ℕ) {c d : Chip} → Meets c (start image) d 0 [] → chipRefusal c (start image) ≡ 0
+pub start-passed : (image : List ℕ) {c d : Chip} → Meets c (start image) d 0 [] → chipRefusal c (start image) ≡ 0
 start-passed image {c} meets = go (chipRefusal c (start image)) refl
   where
     go : (n : ℕ) → chipRefusal c (start image) ≡ n → chipRefusal c (start image) ≡ 0

@@ -1,3 +1,4 @@
 pub mod Contracts
 pub mod Run
 pub mod SingleClock
+pub mod Editions

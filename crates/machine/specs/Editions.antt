@@ -15,8 +15,7 @@ use Rattle.machine.specs.State.{Machine, Command, Idle, WriteE2, ReadE2,
 use Rattle.machine.specs.Memory.{addressOf}
 use Rattle.machine.specs.Commands.{enough, argument, readable}
 use Rattle.machine.specs.Registers.{mapped, registerWritten}
-use Rattle.machine.specs.WellFormed.{wellFormed, Sized}
-use Rattle.machine.specs.Refusals.{Call, start, hostRead, hostWrite, advance, takeFrame, deliver, refusal, ByteCall}
+use Rattle.machine.specs.Refusals.{Call, start, hostRead, hostWrite, advance, takeFrame, deliver, refusal}
 use Rattle.machine.specs.Events.{started, perform, afterCalls}
 use Rattle.machine.specs.Numbers.{command}
 
@@ -35,7 +34,7 @@ startsAnew m c = isStart c && eqb (refusal m c) 0
 -- None of a list of calls is a start that is not refused.
 unfoldable pub NoneStarts : Machine → List Call → Type 0
 NoneStarts m [] = Unit {0}
-NoneStarts m (c ∷ cs) = ByteCall c × (startsAnew m c ≡ false) × NoneStarts (perform m c .next) cs
+NoneStarts m (c ∷ cs) = (startsAnew m c ≡ false) × NoneStarts (perform m c .next) cs
 
 -- The active command, which has its arguments, reads a byte of 000h-003h: ReadE2 of a count that is not 0 and that it may read, or LoadKeyE2, from an
 -- address there. LoadConfig reads from 010h on.
@@ -77,10 +76,22 @@ pub record Alike (m n : Machine) : Type 0 where
   pub registers : m .registers ≡ n .registers
   pub beyond-type : drop 4 (m .eeprom) ≡ drop 4 (n .eeprom)
 
--- A machine of memory sizes, whose first four bytes are its edition's.
-pub record OwnType (m : Machine) : Type 0 where
-  pub sized : Sized m
-  pub own : isOf (m .edition) (m .eeprom) ≡ true
+-- A machine's memory is of its edition.
+abbrev pub OwnType : Machine → Type 0
+OwnType m = isOf (m .edition) (m .eeprom) ≡ true
+
+-- A call answers two machines alike, and leaves them alike; and each of a list of calls does.
+abbrev pub AnswersAlike : Machine → Machine → Call → Type 0
+AnswersAlike m n c = (perform m c .answer ≡ perform n c .answer) × (perform m c .buffer ≡ perform n c .buffer) × Alike (perform m c .next) (perform n c .next)
+
+unfoldable pub EachAlike : Machine → Machine → List Call → Type 0
+EachAlike m n [] = Unit {0}
+EachAlike m n (c ∷ cs) = AnswersAlike m n c × EachAlike (perform m c .next) (perform n c .next) cs
+
+-- None of a list of calls reads a byte of 000h-003h.
+unfoldable pub NoneReads : Machine → List Call → Type 0
+NoneReads m [] = Unit {0}
+NoneReads m (c ∷ cs) = (readsType m c ≡ false) × NoneReads (perform m c .next) cs
 
 -- A machine of an edition as shipped, after a ReadE2 of the product type.
 abbrev pub typeRead : Edition → Machine
@@ -93,14 +104,15 @@ pub record Editions : Type 0 where
   -- 22 comes from a start alone
   pub only-of-start : (m : Machine) (c : Call) → refusal m c ≡ 22 → isStart c ≡ true
   -- any other call leaves the edition and block 0 as they were
-  pub kept : (m : Machine) (c : Call) → Sized m → startsAnew m c ≡ false →
+  pub kept : (m : Machine) (c : Call) → startsAnew m c ≡ false →
       (perform m c .next .edition ≡ m .edition) × (take 0x10 (perform m c .next .eeprom) ≡ take 0x10 (m .eeprom))
   -- and so does any list of calls without such a start
-  pub always-kept : (m : Machine) (cs : List Call) → wellFormed m ≡ true → Sized m → NoneStarts m cs →
+  pub always-kept : (m : Machine) (cs : List Call) → NoneStarts m cs →
       (afterCalls m cs .edition ≡ m .edition) × (take 0x10 (afterCalls m cs .eeprom) ≡ take 0x10 (m .eeprom))
   -- two machines that are alike but for their edition and their own type: a call that does not read the type answers both alike, and leaves them alike
-  pub answer-alike : (m n : Machine) (c : Call) → OwnType m → OwnType n → Alike m n → readsType m c ≡ false →
-      (perform m c .answer ≡ perform n c .answer) × (perform m c .buffer ≡ perform n c .buffer) × Alike (perform m c .next) (perform n c .next)
+  pub answer-alike : (m n : Machine) (c : Call) → OwnType m → OwnType n → Alike m n → readsType m c ≡ false → AnswersAlike m n c
+  -- and so does each of a list of such calls
+  pub always-alike : (m n : Machine) (cs : List Call) → OwnType m → OwnType n → Alike m n → NoneReads m cs → EachAlike m n cs
   -- a call that does may tell them apart: ReadE2 of four bytes from 000h
   pub type-read : (e : Edition) → typeRead e .held ≡ productType e
   -- 2 comes before 22; an image of zeros is neither's, and so is one of both, 30h 88h FFh 0Fh

@@ -22,9 +22,7 @@ use Rattle.machine.specs.WellFormed.{commandFormed}
 use Rattle.machine.specs.Events.{batchStored, programmed, programmingClocked, commandClocked, clock, clocks, written, afterRead, advanced, delivered}
 use Rattle.machine.specs.Events as events
 use Rattle.machine.proofs.Cases.{by-cond, either, while-programming}
-use Rattle.machine.proofs.Clock.{timer-command}
-use Rattle.machine.proofs.WellFormed.Parts.{Good, each}
-use Rattle.machine.proofs.WellFormed.Events.{clocks-good}
+use Rattle.machine.proofs.Editions.Block0.{above, clock-goes}
 
 -- A machine with this edition, and this in the place of its memory.
 abbrev pub recast : Edition → (List ℕ → List ℕ) → Machine → Machine
@@ -248,28 +246,20 @@ module _ (e : Edition) (g : List ℕ → List ℕ) where
         pick (eqb (length (m .held)) 0) (over raisedTx (λ y. same refl) stored)
         (same (ap settled (stored .is) ∙ settled-same (batchStored a bs m) tt .is))
 
-    clock-same : (m : Machine) → commandFormed (m .command) ≡ true → S (clock (R m)) (clock m)
+    clock-same : (m : Machine) → above (m .command) ≡ true → S (clock (R m)) (clock m)
     unfolding clock
-    clock-same m formed =
+    clock-same m h =
         over (commandClocked (m .command))
         (λ y.
         while-programming (λ (f : Machine → Machine). S (f (R y)) (f y)) programmingClocked (λ n. n) (m .command)
-        (λ a bs left is. pick (leb left 1) (end-same a bs y (above a bs left (sym (ap commandFormed is) ∙ formed))) (same refl)) (same refl))
+        (λ a bs left is. pick (leb left 1) (end-same a bs y (leb-true 0x10 a (sym (ap above is) ∙ h))) (same refl)) (same refl))
         (timer-same m)
-      where
-        above : (a : ℕ) (bs : List ℕ) (left : ℕ) → commandFormed (WriteE2 (programming a bs left)) ≡ true → 0x10 ≤ a
-        above a bs left h =
-            let (low, h₁) = each (leb 1 left) _ h in
-            let (high, h₂) = each (leb left _) _ h₁ in
-            let (some, h₃) = each (leb 1 (length bs)) _ h₂ in
-            let (block, h₄) = each (leb (a % 16 + length bs) 16) _ h₃ in leb-true 0x10 a (each (leb 0x10 a) _ h₄ .0)
 
-    pub clocks-same : (n : ℕ) (m : Machine) → Good m → S (clocks n (R m)) (clocks n m)
+    clocks-same : (n : ℕ) (m : Machine) → above (m .command) ≡ true → S (clocks n (R m)) (clocks n m)
     unfolding clocks
-    clocks-same zero m good = same refl
-    clocks-same (suc n) m good =
-        same (ap (clocks n) (clock-same m (good .0 .command .formed) .is) ∙ clocks-same n (clock m) (clocks-good 1 m good) .is)
+    clocks-same zero m h = same refl
+    clocks-same (suc n) m h = same (ap (clocks n) (clock-same m h .is) ∙ clocks-same n (clock m) (clock-goes m h .above-still) .is)
 
-    pub advanced-same : (n : ℕ) (m : Machine) → Good m → S (advanced n (R m)) (advanced n m)
+    pub advanced-same : (n : ℕ) (m : Machine) → above (m .command) ≡ true → S (advanced n (R m)) (advanced n m)
     unfolding advanced
-    advanced-same n m good = alerted-same m (clocks-same n m good)
+    advanced-same n m h = alerted-same m (clocks-same n m h)

@@ -11,7 +11,7 @@ use borrow.Author.Tests.{eqb-true, ltb-false, leb-true}
 use Rattle.edition.specs.Edition.{isOf, ofEither, editionOf, productType}
 use Rattle.edition.specs.declared.Edition.{Edition}
 use Rattle.edition.specs.declared.Edition.the-variants.{Mfrc531, Rc530}
-use Rattle.edition.proofs.Laws.{own-type}
+use Rattle.edition.proofs.Laws.{own-type, has-type}
 use Rattle.profile.specs.Shipped.{shipped, imageOf}
 use Rattle.machine.specs.State.{Machine, Command, Idle, WriteE2, ReadE2, LoadConfig, LoadKeyE2, LoadKey, CalcCRC, Transmit, Receive, TransceiveSending, TransceiveReceiving, machineOf}
 use Rattle.machine.specs.Fifo.{offered, offeredAll, loAlert, hiAlert, alerted}
@@ -19,18 +19,17 @@ use Rattle.machine.specs.Memory.{addressOf, overRegisters, bytesFrom}
 use Rattle.machine.specs.Commands.{commandWritten, stepped, settled, argument, readBytes, readable}
 use Rattle.machine.specs.Frames.{sending, receiving}
 use Rattle.machine.specs.Registers.{mapped, registerRead, registerWritten}
-use Rattle.machine.specs.WellFormed.{fifoFormed, wellFormed, Sized}
-use Rattle.machine.specs.WellFormedness.{Formed}
+use Rattle.machine.specs.WellFormed.{fifoFormed, wellFormed}
 use Rattle.machine.specs.Refusals.{Call, start, hostRead, hostWrite, advance, takeFrame, deliver, refusal, refuseIf, frameFormed}
 use Rattle.machine.specs.Events.{Outcome, Answer, refused, accepted, bufferOf, bufferTaken, readByte, perform, afterCalls, started, written}
-use Rattle.machine.specs.Editions.{isStart, startsAnew, NoneStarts, readsTypeAs, readsType, Alike, OwnType, typeRead, Editions}
+use Rattle.machine.specs.Editions.{isStart, startsAnew, NoneStarts, readsTypeAs, readsType, Alike, OwnType, AnswersAlike, EachAlike, NoneReads, typeRead, Editions}
 use Rattle.machine.proofs.Cases.{by-cond}
 use Rattle.machine.proofs.Performing.{as-accepted, passed-test, not-false}
-use Rattle.machine.proofs.WellFormed.Parts.{Good, formed-good, each, othersFormed}
-use Rattle.machine.proofs.WellFormed.Kept.{well-formedness}
+use Rattle.machine.proofs.WellFormed.Parts.{each, othersFormed, well-command}
+use Rattle.machine.proofs.Editions.Block0.{above, formed-above, Keeps, keeps-all, keeps-then, keeps-type}
 use Rattle.machine.proofs.Editions.Recast.{recast, Same, SameReads, written-same, after-read-same, taken-same, delivered-same, advanced-same}
 use Rattle.machine.proofs.Editions.Front.{front, drop-front, stored-front, read-front}
-use Rattle.machine.proofs.Editions.Kept.{Keeps, accepted-kept}
+use Rattle.machine.proofs.Editions.Kept.{accepted-kept}
 
 -- A call but a start that is not refused finds a well-formed machine.
 well-there : (m : Machine) (c : Call) → isStart c ≡ false → refusal m c ≡ 0 → wellFormed m ≡ true
@@ -42,28 +41,25 @@ well-there m (advance n) other e = not-false _ (passed-test (not (wellFormed m))
 well-there m (takeFrame buffer) other e = not-false _ (passed-test (not (wellFormed m)) 6 _ e .0)
 well-there m (deliver bytes parities lastBits) other e = not-false _ (passed-test (not (wellFormed m)) 6 _ e .0)
 
-good-there : (m : Machine) (c : Call) → isStart c ≡ false → refusal m c ≡ 0 → Sized m → Good m
-good-there m c other e sized = formed-good m (record { well = well-there m c other e; sized = sized })
+above-there : (m : Machine) (c : Call) → isStart c ≡ false → refusal m c ≡ 0 → above (m .command) ≡ true
+above-there m c other e = formed-above (m .command) (well-command m (well-there m c other e))
 
 -- Any call that is no start, or is refused.
 no-start : (s : Bool) (t : Bool) → (s && t) ≡ false → t ≡ true → s ≡ false
 no-start true t h e = absurd (true≢false (sym e ∙ h))
 no-start false t h e = refl
 
-kept : (m : Machine) (c : Call) → Sized m → startsAnew m c ≡ false → Keeps m (perform m c .next)
+kept : (m : Machine) (c : Call) → startsAnew m c ≡ false → Keeps m (perform m c .next)
 unfolding perform
-kept m c sized none =
+kept m c none =
     by-cond (λ (o : Outcome). Keeps m (o .next)) (eqb (refusal m c) 0) (accepted m c) _
-    (λ e. let other = no-start (isStart c) (eqb (refusal m c) 0) none e in accepted-kept m c other (good-there m c other (eqb-true (refusal m c) 0 e) sized))
-    (λ e. record { edition = refl; block-0 = refl })
+    (λ e. let other = no-start (isStart c) (eqb (refusal m c) 0) none e in accepted-kept m c other (above-there m c other (eqb-true (refusal m c) 0 e)))
+    (λ e. keeps-all m)
 
-always-kept : (m : Machine) (cs : List Call) → Formed m → NoneStarts m cs → Keeps m (afterCalls m cs)
+always-kept : (m : Machine) (cs : List Call) → NoneStarts m cs → Keeps m (afterCalls m cs)
 unfolding NoneStarts afterCalls
-always-kept m [] formed none = record { edition = refl; block-0 = refl }
-always-kept m (c ∷ cs) formed (bytes, first, rest) =
-    let k = kept m c (formed .sized) first in
-    let ks = always-kept (perform m c .next) cs (well-formedness .kept m c bytes formed) rest in
-    record { edition = ks .edition ∙ k .edition; block-0 = ks .block-0 ∙ k .block-0 }
+always-kept m [] none = keeps-all m
+always-kept m (c ∷ cs) (first, rest) = keeps-then (kept m c first) (always-kept (perform m c .next) cs rest)
 
 -- A start that is not refused.
 started-as : (m : Machine) (image : List ℕ) → refusal m (start image) ≡ 0 → (perform m (start image) .next .edition ≡ editionOf image) × (isOf (editionOf image) image ≡ true)
@@ -73,6 +69,25 @@ started-as m image e =
       ap (λ (o : Outcome). o .next .edition) (as-accepted m (start image) e),
       own-type image (not-false _ (passed-test (not (ofEither image)) 21 0 (tests .1) .0)),
     )
+
+own-started : (m : Machine) (c : Call) → startsAnew m c ≡ true → OwnType (perform m c .next)
+unfolding started
+own-started m (start image) t =
+    let passed = eqb-true (refusal m (start image)) 0 t in
+    subst (λ (o : Outcome). OwnType (o .next)) (sym (as-accepted m (start image) passed)) (started-as m image passed .1)
+own-started m (hostRead address) t = absurd (true≢false (sym t))
+own-started m (hostWrite address v) t = absurd (true≢false (sym t))
+own-started m (advance n) t = absurd (true≢false (sym t))
+own-started m (takeFrame buffer) t = absurd (true≢false (sym t))
+own-started m (deliver bytes parities lastBits) t = absurd (true≢false (sym t))
+
+-- After any call a memory of the machine's edition is so again.
+own-again : (m : Machine) (c : Call) → OwnType m → OwnType (perform m c .next)
+own-again m c own = go (startsAnew m c) refl
+  where
+    go : (t : Bool) → startsAnew m c ≡ t → OwnType (perform m c .next)
+    go true t = own-started m c t
+    go false t = keeps-type (kept m c t) own
 
 -- No other call is refused with 22: its numbers are 7, two more and 0.
 never : (a b c : Bool) (p q : ℕ) → p ≤ 6 → q ≤ 6 → refuseIf a 7 (refuseIf b p (refuseIf c q 0)) ≡ 22 → ⊥
@@ -153,26 +168,26 @@ module _ (e : Edition) (b : List ℕ) (has : 4 ≤ length b) where
     abbrev AlikeOutcome : Outcome → Outcome → Type 0
     AlikeOutcome o′ o = (o′ .answer ≡ o .answer) × (o′ .buffer ≡ o .buffer) × Same e g (o′ .next) (o .next)
 
-    accepted-alike : (c : Call) → isStart c ≡ false → Good m → readsType m c ≡ false → AlikeOutcome (accepted R c) (accepted m c)
+    accepted-alike : (c : Call) → isStart c ≡ false → above (m .command) ≡ true → readsType m c ≡ false → AlikeOutcome (accepted R c) (accepted m c)
     unfolding readByte registerRead loAlert hiAlert bufferTaken
-    accepted-alike (start image) other good unread-it = absurd (true≢false other)
-    accepted-alike (hostRead address) other good unread-it = (refl, refl, after-read-same e g address m)
-    accepted-alike (hostWrite address v) other good unread-it =
+    accepted-alike (start image) other h unread-it = absurd (true≢false other)
+    accepted-alike (hostRead address) other h unread-it = (refl, refl, after-read-same e g address m)
+    accepted-alike (hostWrite address v) other h unread-it =
         let n = registerWritten (mapped (m .page) address) v m in (refl, refl, written-same e g address v m (unread (n .command) n unread-it))
-    accepted-alike (advance n) other good unread-it = (refl, refl, advanced-same e g (λ l a bs above. stored-front b 4 has l a bs (omega (arith, above))) n m good)
-    accepted-alike (takeFrame buffer) other good unread-it = (refl, refl, taken-same e g m)
-    accepted-alike (deliver bytes parities lastBits) other good unread-it = (refl, refl, delivered-same e g bytes parities lastBits m)
+    accepted-alike (advance n) other h unread-it = (refl, refl, advanced-same e g (λ l a bs low. stored-front b 4 has l a bs (omega (arith, low))) n m h)
+    accepted-alike (takeFrame buffer) other h unread-it = (refl, refl, taken-same e g m)
+    accepted-alike (deliver bytes parities lastBits) other h unread-it = (refl, refl, delivered-same e g bytes parities lastBits m)
 
-    perform-alike : (c : Call) → isStart c ≡ false → Sized m → readsType m c ≡ false → AlikeOutcome (perform R c) (perform m c)
+    perform-alike : (c : Call) → isStart c ≡ false → readsType m c ≡ false → AlikeOutcome (perform R c) (perform m c)
     unfolding perform
-    perform-alike c other sized unread-it =
+    perform-alike c other unread-it =
         subst (λ (k : ℕ). AlikeOutcome (cond (eqb k 0) (accepted R c) (record { answer = refused k; next = R; buffer = bufferOf c })) (perform m c))
         (sym (refusal-alike c)) (go (eqb (refusal m c) 0) refl)
       where
         go : (t : Bool) → eqb (refusal m c) 0 ≡ t →
             AlikeOutcome (cond t (accepted R c) (record { answer = refused (refusal m c); next = R; buffer = bufferOf c }))
             (cond t (accepted m c) (record { answer = refused (refusal m c); next = m; buffer = bufferOf c }))
-        go true is = accepted-alike c other (good-there m c other (eqb-true (refusal m c) 0 is) sized) unread-it
+        go true is = accepted-alike c other (above-there m c other (eqb-true (refusal m c) 0 is)) unread-it
         go false is = (refl, refl, record { is = refl })
 
 -- Two machines that are alike: the second is the first one recast, and a machine recast is alike.
@@ -204,10 +219,7 @@ alike-started : (image : List ℕ) → Alike (started image) (started image)
 alike-started image =
     record { page = refl; command = refl; held = refl; status = refl; timer = refl; checksum = refl; key = refl; bitFraming = refl; registers = refl; beyond-type = refl }
 
-abbrev AnswerAlike : Machine → Machine → Call → Type 0
-AnswerAlike m n c = (perform m c .answer ≡ perform n c .answer) × (perform m c .buffer ≡ perform n c .buffer) × Alike (perform m c .next) (perform n c .next)
-
-start-alike : (m n : Machine) (image : List ℕ) → Alike m n → AnswerAlike m n (start image)
+start-alike : (m n : Machine) (image : List ℕ) → Alike m n → AnswersAlike m n (start image)
 unfolding perform refusal
 start-alike m n image a = go (eqb (refusal m (start image)) 0)
   where
@@ -221,23 +233,30 @@ start-alike m n image a = go (eqb (refusal m (start image)) 0)
     go true = (refl, refl, alike-started image)
     go false = (refl, refl, a)
 
-other-alike : (m n : Machine) (c : Call) → isStart c ≡ false → OwnType m → OwnType n → Alike m n → readsType m c ≡ false → AnswerAlike m n c
+other-alike : (m n : Machine) (c : Call) → isStart c ≡ false → OwnType m → OwnType n → Alike m n → readsType m c ≡ false → AnswersAlike m n c
 other-alike m n c other own-m own-n a unread-it =
-    let has : 4 ≤ length (n .eeprom) = omega (arith, own-n .sized .eeprom-count) in
+    let has = has-type (n .edition) (n .eeprom) own-n in
     let back = recast-alike a in
     let own : isOf (n .edition) (front (n .eeprom) 4 (m .eeprom)) ≡ isOf (m .edition) (m .eeprom) =
-    ap (λ (x : Machine). isOf (x .edition) (x .eeprom)) back ∙ own-n .own ∙ sym (own-m .own) in
-    let (answer, buffer, next) = perform-alike (n .edition) (n .eeprom) has m own c other (own-m .sized) unread-it in
-    subst (λ (x : Machine). AnswerAlike m x c) back
+    ap (λ (x : Machine). isOf (x .edition) (x .eeprom)) back ∙ own-n ∙ sym own-m in
+    let (answer, buffer, next) = perform-alike (n .edition) (n .eeprom) has m own c other unread-it in
+    subst (λ (x : Machine). AnswersAlike m x c) back
     (sym answer, sym buffer, alike-same (n .edition) (n .eeprom) has next)
 
-answer-alike : (m n : Machine) (c : Call) → OwnType m → OwnType n → Alike m n → readsType m c ≡ false → AnswerAlike m n c
+answer-alike : (m n : Machine) (c : Call) → OwnType m → OwnType n → Alike m n → readsType m c ≡ false → AnswersAlike m n c
 answer-alike m n (start image) p q a u = start-alike m n image a
 answer-alike m n (hostRead address) p q a u = other-alike m n (hostRead address) refl p q a u
 answer-alike m n (hostWrite address v) p q a u = other-alike m n (hostWrite address v) refl p q a u
 answer-alike m n (advance k) p q a u = other-alike m n (advance k) refl p q a u
 answer-alike m n (takeFrame buffer) p q a u = other-alike m n (takeFrame buffer) refl p q a u
 answer-alike m n (deliver bytes parities lastBits) p q a u = other-alike m n (deliver bytes parities lastBits) refl p q a u
+
+always-alike : (m n : Machine) (cs : List Call) → OwnType m → OwnType n → Alike m n → NoneReads m cs → EachAlike m n cs
+unfolding EachAlike NoneReads
+always-alike m n [] p q a none = tt
+always-alike m n (c ∷ cs) p q a (first, rest) =
+    let alike = answer-alike m n c p q a first in
+    (alike, always-alike (perform m c .next) (perform n c .next) cs (own-again m c p) (own-again n c q) (alike .2) rest)
 
 -- The product type, read by ReadE2.
 type-read : (e : Edition) → typeRead e .held ≡ productType e
@@ -263,9 +282,10 @@ editions =
     record {
       started-as = started-as;
       only-of-start = only-of-start;
-      kept = λ m c sized none. let k = kept m c sized none in (k .edition, k .block-0);
-      always-kept = λ m cs well sized none. let k = always-kept m cs (record { well = well; sized = sized }) none in (k .edition, k .block-0);
+      kept = λ m c none. let k = kept m c none in (k .edition, k .block-0);
+      always-kept = λ m cs none. let k = always-kept m cs none in (k .edition, k .block-0);
       answer-alike = answer-alike;
+      always-alike = always-alike;
       type-read = type-read;
       short-image = λ m. refl;
       image-of-zeros = λ m. refl;

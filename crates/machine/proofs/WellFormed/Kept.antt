@@ -16,10 +16,11 @@ use Rattle.machine.specs.Refusals.{Call, start, hostRead, hostWrite, adv
 use Rattle.machine.specs.Events.{Outcome, refused, bufferOf, accepted, perform, afterCalls, afterRead, started, clocks}
 use Rattle.machine.specs.WellFormedness.{Formed, EachByteCall, WellFormedness}
 use Rattle.machine.proofs.Cases.{by-cond}
-use Rattle.machine.proofs.WellFormed.Parts.{Good, each, good-formed, formed-good, well-edition, well-held}
+use Rattle.machine.proofs.WellFormed.Parts.{Good, each, good-formed, formed-good, well-edition, well-held, well-command}
 use Rattle.machine.proofs.Performing.{passed-test, not-false}
 use Rattle.machine.proofs.WellFormed.Events.{started-good, written-good, after-read-good, clocks-good, advanced-good, taken-good, delivered-good}
-use Rattle.machine.proofs.Editions.Kept.{keeps-type, clocks-kept, accepted-kept}
+use Rattle.machine.proofs.Editions.Block0.{formed-above, keeps-type, clocks-kept}
+use Rattle.machine.proofs.Editions.Kept.{accepted-kept}
 
 -- A call that is not refused leads to a good machine.
 accepted-good : (m : Machine) (c : Call) → ByteCall c → refusal m c ≡ 0 → Good m → Good (accepted m c .next)
@@ -42,11 +43,11 @@ accepted-type : (m : Machine) (c : Call) → refusal m c ≡ 0 → Good m → is
 unfolding refusal started
 accepted-type m (start image) e g own =
     own-type image (not-false _ (passed-test (not (ofEither image)) 21 0 (passed-test (not (eqb (length image) 512)) 1 _ e .1) .0))
-accepted-type m (hostRead address) e g own = keeps-type (accepted-kept m (hostRead address) refl g) own
-accepted-type m (hostWrite address v) e g own = keeps-type (accepted-kept m (hostWrite address v) refl g) own
-accepted-type m (advance n) e g own = keeps-type (accepted-kept m (advance n) refl g) own
-accepted-type m (takeFrame buffer) e g own = keeps-type (accepted-kept m (takeFrame buffer) refl g) own
-accepted-type m (deliver bytes parities lastBits) e g own = keeps-type (accepted-kept m (deliver bytes parities lastBits) refl g) own
+accepted-type m (hostRead address) e g own = keeps-type (accepted-kept m (hostRead address) refl (formed-above (m .command) (g .0 .command .formed))) own
+accepted-type m (hostWrite address v) e g own = keeps-type (accepted-kept m (hostWrite address v) refl (formed-above (m .command) (g .0 .command .formed))) own
+accepted-type m (advance n) e g own = keeps-type (accepted-kept m (advance n) refl (formed-above (m .command) (g .0 .command .formed))) own
+accepted-type m (takeFrame buffer) e g own = keeps-type (accepted-kept m (takeFrame buffer) refl (formed-above (m .command) (g .0 .command .formed))) own
+accepted-type m (deliver bytes parities lastBits) e g own = keeps-type (accepted-kept m (deliver bytes parities lastBits) refl (formed-above (m .command) (g .0 .command .formed))) own
 
 -- Any call.
 kept : (m : Machine) (c : Call) → ByteCall c → Formed m → Formed (perform m c .next)
@@ -78,7 +79,7 @@ plain-read m address h = by-cond (λ (o : Outcome). o .next ≡ m) (eqb (refusal
 -- Any number of clocks.
 pub clocks-formed : (n : ℕ) (m : Machine) → Formed m → Formed (clocks n m)
 clocks-formed n m f =
-    let good = formed-good m f in good-formed (clocks n m) (clocks-good n m good) (keeps-type (clocks-kept m n good) (well-edition m (f .well)))
+    let good = formed-good m f in good-formed (clocks n m) (clocks-good n m good) (keeps-type (clocks-kept n m (formed-above (m .command) (well-command m (f .well)))) (well-edition m (f .well)))
 
 -- The statement.
 pub well-formedness : WellFormedness

@@ -189,7 +189,7 @@ impl Bench<'_> {
         let words: Vec<&str> = words.collect();
         match (verb.to_ascii_lowercase().as_str(), &words[..]) {
             ("start", [] | ["shipped"]) => self.start(None, None),
-            ("start", ["shipped" | "noise" | "keys", _, _]) | ("memory" | "corrupt" | "mend", _) => {
+            ("start", ["shipped" | "noise" | "keys", _, _, ..]) | ("memory" | "corrupt" | "mend", _) => {
                 Err(format!("{} is for the lists of the differential test alone", quoted(line)).into())
             }
             ("start", [first, rest @ ..]) => {

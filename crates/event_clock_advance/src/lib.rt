@@ -32,7 +32,7 @@ pub fn advance<'a>(
         (now (slots .entry)) (now (latch .exit)) (now (key .entry)) (now (eeprom .exit)) in
         ⌜ Promises before (Refusals·advance by) after r [] ⌝ }
 {
-    if !quick(clocks, numbers, state) | !of_own_edition(state, eeprom) {
+    if !quick(clocks, numbers, state) || !of_own_edition(state, eeprom) {
         if !formed(clocks, numbers, state, eeprom) {
             return 7;
         }

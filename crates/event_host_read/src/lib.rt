@@ -35,7 +35,7 @@ pub fn host_read<'a>(
         (now (registers .entry)) (now (slots .entry)) (now (eeprom .entry)) in
         ⌜ ((c : Chip) → Promises (before c) (hostRead address) (after c) r []) ⌝ }
 {
-    if !quick(clocks, numbers, state) | !of_own_edition(state, eeprom) {
+    if !quick(clocks, numbers, state) || !of_own_edition(state, eeprom) {
         if !formed(clocks, numbers, state, eeprom) {
             return 7;
         }

@@ -133,7 +133,7 @@ pub fn host_write<'a>(
         (now (slots .exit)) (now (latch .exit)) (now (key .exit)) (now (eeprom .entry)) in
         ⌜ Promises before (hostWrite address v) after r [] ⌝ }
 {
-    if !quick(clocks, numbers, state) | !of_own_edition(state, eeprom) {
+    if !quick(clocks, numbers, state) || !of_own_edition(state, eeprom) {
         if !formed(clocks, numbers, state, eeprom) {
             return 7;
         }

@@ -3,7 +3,7 @@
 use Prim.Native.Nat.{ℕ, _+_, _%_}
 use native.Mathlib.Omega.{arith}
 use mathlib.Core.Path.{_≡_, refl, sym, ap, _∙_}
-use mathlib.Core.Bool.{Bool, true, false, cond, not, and-true, and-comm, and-assoc, false≢true, _&&_, _||_}
+use mathlib.Core.Bool.{Bool, true, false, cond, not, and-true, and-comm, and-assoc, false≢true, _&&_}
 use mathlib.Core.List.{List}
 use lib.Dec.{ltb, leb, eqb}
 use lib.ListN.{length, take}
@@ -155,7 +155,7 @@ stage-rests stage n = by-cond (λ (t : Bool). t ≡ true → (writes stage ≡ f
         (ap writes s, ap (λ (j : ℕ). ltb n (stageRoom j)) s ∙ ap (λ (j : ℕ). ltb j 1) (eqb-true n 0 none))
 
 -- A state that a host meets most of the time, with a memory of the chip's edition, is well formed.
-usual-formed : (c : Chip) → Sizes c → usual (core c) ≡ true → editionFieldsFormed (core c .edition) (c .eeprom) ≡ true → chipFormed c ≡ true
+pub usual-formed : (c : Chip) → Sizes c → usual (core c) ≡ true → editionFieldsFormed (core c .edition) (c .eeprom) ≡ true → chipFormed c ≡ true
 usual-formed c sizes is typed =
     let k = core c in
     let n = heldCount (k .read) (k .write) in
@@ -177,13 +177,3 @@ usual-formed c sizes is typed =
     (ap (λ (j : ℕ). leb j programmingClocks && (agree (ltb 0 j) (writes (k .stage) && batchFits (k .next) (k .latched)) && ltb (k .next) 0x200)) none
     ∙ both (ap (λ (b : Bool). not (b && batchFits (k .next) (k .latched))) other) near)
     (both (ap (λ (j : ℕ). ltb n (roomOf (k .stage) j)) none ∙ room) typed)))))
-
--- So it is where neither of the two tests fails.
-pub quickly-formed : (c : Chip) → Sizes c → {quick typed : Bool} → quick ≡ usual (core c) → typed ≡ editionFieldsFormed (core c .edition) (c .eeprom) →
-    (not quick || not typed) ≡ false → chipFormed c ≡ true
-quickly-formed c sizes {quick} {typed} q t passed = go quick typed q t passed
-  where
-    go : (a b : Bool) → a ≡ usual (core c) → b ≡ editionFieldsFormed (core c .edition) (c .eeprom) → (not a || not b) ≡ false → chipFormed c ≡ true
-    go true true p r h = usual-formed c sizes (sym p) (sym r)
-    go true false p r h = absurd (false≢true (sym h))
-    go false b p r h = absurd (false≢true (sym h))

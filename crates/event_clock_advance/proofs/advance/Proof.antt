@@ -18,7 +18,7 @@ use Rattle.state.proofs.MeetLaws.{malformed, advance-refusal, own-fields-formed
 use Rattle.state.proofs.TurnLaws.{then, becomes}
 use Rattle.state_fifo.specs.Alerts.{alertedFrom}
 use Rattle.state_fifo.proofs.AlertLaws.{alerted-from}
-use Rattle.state_formed.proofs.ClauseLaws.{quickly-formed}
+use Rattle.state_formed.proofs.ClauseLaws.{usual-formed}
 use borrow.Author.Needs.{needs}
 use Rattle.event_clock_advance.specs.Clock.{clockedIn}
 use Rattle.event_clock_advance.proofs.advance.Statement.{statement}
@@ -38,25 +38,25 @@ at-entry s =
     let a = s .args in assembled (now (a .clocks)) (now (a .numbers)) (now (a .state)) (now (a .registers)) (now (a .slots)) (now (a .latch)) (now (a .key)) (now (a .eeprom))
 
 -- Past the quick tests, or past every clause: where the function began, and that the chip is well formed.
-abbrev entered : tie.After-of-own-edition → tie.Start
-entered asked = asked .before .before .before .before .before .before .before
+abbrev entered : tie.After-quick → tie.Start
+entered asked = asked .before .before .before .before
 
-abbrev began : tie.Joined1 → tie.Start
+abbrev began : tie.Joined1-2 → tie.Start
 began past = entered (past .before)
 
-well-formed : (past : tie.Joined1) → Whole (at-entry (began past)) → chipFormed (at-entry (began past)) ≡ true
+well-formed : (past : tie.Joined1-2) → Whole (at-entry (began past)) → chipFormed (at-entry (began past)) ≡ true
 well-formed past whole =
     let asked = past .before in
     let old = at-entry (entered asked) in
     ⊎-elim (λ x. sym (x .5 .ensures old (whole .sizes)) ∙ not-false _ (x .6 .left))
-    (λ x. quickly-formed old (whole .sizes) (asked .before .before .before .quick .ensures old) (asked .of-own-edition .ensures) (x .left))
+    (λ x. usual-formed old (whole .sizes) (sym (asked .quick .ensures old) ∙ not-false _ (x .0 .left)) (sym (x .3 .ensures) ∙ not-false _ (x .4 .left)))
     (past .if1 .came)
 
 returns : tie.Need-returns
 returns c whole =
     let s = entered (c .before .before .before .before .before .before .before) in
     let old = at-entry s in
-    malformed old (advance (s .args .by)) tt (sym (c .before .formed .ensures old (whole .sizes)) ∙ not-true _ (c .if2 .taken)) whole
+    malformed old (advance (s .args .by)) tt (sym (c .before .formed .ensures old (whole .sizes)) ∙ not-true _ (c .if3 .taken)) whole
 
 alerts-of-requires : tie.Need-alerts-of-requires
 alerts-of-requires c κs = search needs

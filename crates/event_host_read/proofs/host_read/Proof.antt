@@ -14,7 +14,7 @@ use Rattle.state.specs.Lent.{clocksNumbersStateRegistersSlotsEeprom}
 use Rattle.state.specs.Meets.{Whole}
 use Rattle.state.specs.declared.Chip.{Chip}
 use Rattle.state.proofs.MeetLaws.{refused, malformed, read-refusal}
-use Rattle.state_formed.proofs.ClauseLaws.{quickly-formed}
+use Rattle.state_formed.proofs.ClauseLaws.{usual-formed}
 use Rattle.event_host_read.proofs.ReadLaws.{read-as, Passes, read-removes, read-leaves}
 use Rattle.event_host_read.proofs.host_read.Statement.{statement}
 use Rattle.event_host_read.proofs.host_read.Tie as tie
@@ -24,15 +24,15 @@ abbrev at-entry : tie.Start → Chip → Chip
 at-entry s = let a = s .args in clocksNumbersStateRegistersSlotsEeprom (now (a .clocks)) (now (a .numbers)) (now (a .state)) (now (a .registers)) (now (a .slots)) (now (a .eeprom))
 
 -- Past the quick tests, or past every clause, it is well formed.
-abbrev entered : tie.After-of-own-edition → tie.Start
-entered asked = asked .before .before .before .before
+abbrev entered : tie.After-quick → tie.Start
+entered asked = asked .before .before
 
-well-formed : (past : tie.Joined1) (chip : Chip) → Whole (at-entry (entered (past .before)) chip) → chipFormed (at-entry (entered (past .before)) chip) ≡ true
+well-formed : (past : tie.Joined1-2) (chip : Chip) → Whole (at-entry (entered (past .before)) chip) → chipFormed (at-entry (entered (past .before)) chip) ≡ true
 well-formed past chip whole =
     let asked = past .before in
     let old = at-entry (entered asked) chip in
     ⊎-elim (λ x. sym (x .2 .ensures old (whole .sizes)) ∙ not-false _ (x .3 .left))
-    (λ x. quickly-formed old (whole .sizes) (asked .before .before .quick .ensures old) (asked .of-own-edition .ensures) (x .left))
+    (λ x. usual-formed old (whole .sizes) (sym (asked .quick .ensures old) ∙ not-false _ (x .0 .left)) (sym (x .2 .ensures) ∙ not-false _ (x .3 .left)))
     (past .if1 .came)
 
 -- Past the address's test too, with the register found.
@@ -43,7 +43,7 @@ passes : (found : tie.After-mapped) (chip : Chip) → Whole (at-entry (began fou
 unfolding viewOf
 passes found chip whole =
     let past = found .before .before in
-    record { formed = well-formed (past .before) chip whole; whole = whole; low = omega (arith, past .if3 .left); is = found .mapped .ensures }
+    record { formed = well-formed (past .before) chip whole; whole = whole; low = omega (arith, past .if4 .left); is = found .mapped .ensures }
 
 quick-requires : tie.Need-quick-requires
 quick-requires c κs = search needs
@@ -57,7 +57,7 @@ formed-requires c κs = search needs
 returns : tie.Need-returns
 returns c chip whole =
     let old = at-entry (entered (c .before .before .before .before)) chip in
-    malformed old (hostRead _) tt (sym (c .before .formed .ensures old (whole .sizes)) ∙ not-true _ (c .if2 .taken)) whole
+    malformed old (hostRead _) tt (sym (c .before .formed .ensures old (whole .sizes)) ∙ not-true _ (c .if3 .taken)) whole
 
 returns-2 : tie.Need-returns-2
 returns-2 c chip whole =
@@ -65,7 +65,7 @@ returns-2 c chip whole =
     let old = at-entry start chip in
     let address = start .args .address in
     refused old (hostRead _) 0
-    (read-refusal old (well-formed (c .before) chip whole) address 1 (ap (λ (t : Bool). refuseIf t 1 0) (lt-ltb 63 address (omega (arith, c .if3 .taken)))) .0) whole
+    (read-refusal old (well-formed (c .before) chip whole) address 1 (ap (λ (t : Bool). refuseIf t 1 0) (lt-ltb 63 address (omega (arith, c .if4 .taken)))) .0) whole
 
 element-copy-out-mapped : tie.Need-element-copy-out-mapped
 element-copy-out-mapped c = search needs
@@ -89,7 +89,7 @@ returns-3 c chip whole =
     let found = third .before in
     let old = at-entry (began found) chip in
     let passed = passes found chip whole in
-    read-leaves passed _ (λ e. omega (arith, e, third .if4 .taken)) (read-as _ 0x03 _ (view old) (third .if4 .taken) (c .primary-status .ensures old (passed .formed)))
+    read-leaves passed _ (λ e. omega (arith, e, third .if5 .taken)) (read-as _ 0x03 _ (view old) (third .if5 .taken) (c .primary-status .ensures old (passed .formed)))
 
 fifo-read-requires : tie.Need-fifo-read-requires
 fifo-read-requires c κs = search needs
@@ -106,7 +106,7 @@ returns-4 c chip whole =
     let fourth = c .before .before in
     let found = fourth .before .before in
     let old = at-entry (began found) chip in
-    read-removes (passes found chip whole) (withState (c .fifo-read .last .0) old) _ (fourth .if5 .taken) (c .fifo-read .ensures .0 old) (c .fifo-read .ensures .1 old (whole .sizes))
+    read-removes (passes found chip whole) (withState (c .fifo-read .last .0) old) _ (fourth .if6 .taken) (c .fifo-read .ensures .0 old) (c .fifo-read .ensures .1 old (whole .sizes))
 
 read-requires : tie.Need-read-requires
 read-requires c κs = search needs
@@ -123,7 +123,7 @@ returns-5 c chip whole =
     let other = c .before .before in
     let found = other .before .before in
     let passed = passes found chip whole in
-    read-leaves passed _ (other .if5 .left) (c .read .ensures (other .if5 .left) (other .before .if4 .left) (at-entry (began found) chip) (passed .formed))
+    read-leaves passed _ (other .if6 .left) (c .read .ensures (other .if6 .left) (other .before .if5 .left) (at-entry (began found) chip) (passed .formed))
 
 pub host-read-spec : {M : Type 1} → statement M
 host-read-spec =

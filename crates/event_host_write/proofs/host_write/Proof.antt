@@ -14,7 +14,7 @@ use Rattle.state.specs.Meets.{Whole}
 use Rattle.state.specs.declared.Chip.{Chip}
 use Rattle.state.proofs.RingLaws.{count-length}
 use Rattle.state.proofs.MeetLaws.{refused, malformed, write-refusal}
-use Rattle.state_formed.proofs.ClauseLaws.{quickly-formed}
+use Rattle.state_formed.proofs.ClauseLaws.{usual-formed}
 use Rattle.event_host_write.proofs.WriteLaws.{Passes, data-worked, data-summed, data-waits, command-worked, command-begins, other-wrote}
 use Rattle.event_host_write.proofs.host_write.Statement.{statement}
 use Rattle.event_host_write.proofs.host_write.Tie as tie
@@ -27,15 +27,15 @@ abbrev called : tie.Start → Call
 called s = hostWrite (s .args .address) (s .args .v)
 
 -- Past the quick tests, or past every clause, it is well formed.
-abbrev entered : tie.After-of-own-edition → tie.Start
-entered asked = asked .before .before .before .before .before .before
+abbrev entered : tie.After-quick → tie.Start
+entered asked = asked .before .before .before .before
 
-well-formed : (past : tie.Joined1) → Whole (at-entry (entered (past .before))) → chipFormed (at-entry (entered (past .before))) ≡ true
+well-formed : (past : tie.Joined1-2) → Whole (at-entry (entered (past .before))) → chipFormed (at-entry (entered (past .before))) ≡ true
 well-formed past whole =
     let asked = past .before in
     let old = at-entry (entered asked) in
     ⊎-elim (λ x. sym (x .4 .ensures old (whole .sizes)) ∙ not-false _ (x .5 .left))
-    (λ x. quickly-formed old (whole .sizes) (asked .before .before .quick .ensures old) (asked .of-own-edition .ensures) (x .left))
+    (λ x. usual-formed old (whole .sizes) (sym (asked .quick .ensures old) ∙ not-false _ (x .0 .left)) (sym (x .2 .ensures) ∙ not-false _ (x .3 .left)))
     (past .if1 .came)
 
 -- Past the address's test too, with the register found.
@@ -47,7 +47,7 @@ passes : (found : tie.After-mapped) → Whole (at-entry (began found)) →
 unfolding viewOf
 passes found whole =
     let past = found .before .before in
-    record { formed = well-formed (past .before) whole; whole = whole; low = omega (arith, past .if3 .left); byte = began found .fits .v .fits; is = found .mapped .ensures }
+    record { formed = well-formed (past .before) whole; whole = whole; low = omega (arith, past .if4 .left); byte = began found .fits .v .fits; is = found .mapped .ensures }
 
 quick-requires : tie.Need-quick-requires
 quick-requires c κs = search needs
@@ -62,7 +62,7 @@ returns : tie.Need-returns
 returns c whole =
     let clauses = c .before in
     let s = entered (clauses .before .before .before .before .before) in
-    malformed (at-entry s) (called s) tt (sym (clauses .formed .ensures (at-entry s) (whole .sizes)) ∙ not-true _ (c .if2 .taken)) whole
+    malformed (at-entry s) (called s) tt (sym (clauses .formed .ensures (at-entry s) (whole .sizes)) ∙ not-true _ (c .if3 .taken)) whole
 
 returns-2 : tie.Need-returns-2
 returns-2 c whole =
@@ -70,7 +70,7 @@ returns-2 c whole =
     let address = s .args .address in
     refused (at-entry s) (called s) 0
     (write-refusal (at-entry s) (well-formed (c .before) whole) address (s .args .v) 1
-    (ap (λ (t : Bool). refuseIf t 1 0) (lt-ltb 63 address (omega (arith, c .if3 .taken)))) .0) whole
+    (ap (λ (t : Bool). refuseIf t 1 0) (lt-ltb 63 address (omega (arith, c .if4 .taken)))) .0) whole
 
 element-copy-out-mapped : tie.Need-element-copy-out-mapped
 element-copy-out-mapped c = search needs
@@ -91,7 +91,7 @@ returns-3 c whole =
     let found = third .before in
     let old = at-entry (began found) in
     let fed = c .checksum-fed in
-    data-summed (passes found whole) (numbersState (fed .last .0) (fed .last .1 .0) old) (third .if4 .taken) (tested .if5 .taken) (fed .ensures old (whole .sizes))
+    data-summed (passes found whole) (numbersState (fed .last .0) (fed .last .1 .0) old) (third .if5 .taken) (tested .if6 .taken) (fed .ensures old (whole .sizes))
 
 fifo-written-requires : tie.Need-fifo-written-requires
 fifo-written-requires c κs = search needs
@@ -103,7 +103,7 @@ returns-4 c whole =
     let found = third .before in
     let old = at-entry (began found) in
     let stored = c .fifo-written in
-    data-waits (passes found whole) (stateSlots (stored .last .0) (stored .last .1 .1 .0) old) (third .if4 .taken) (tested .if6 .taken) (stored .ensures old (whole .sizes))
+    data-waits (passes found whole) (stateSlots (stored .last .0) (stored .last .1 .1 .0) old) (third .if5 .taken) (tested .if7 .taken) (stored .ensures old (whole .sizes))
 
 fifo-worked-requires : tie.Need-fifo-worked-requires
 fifo-worked-requires c κs = search needs
@@ -114,7 +114,7 @@ returns-5 c whole =
     let found = third .before in
     let l = c .fifo-worked .last in
     let next = assembled (l .0) (l .1 .0) (l .1 .1 .0) (l .1 .1 .1 .0) (l .1 .1 .1 .1 .0) (l .1 .1 .1 .1 .1 .0) (l .1 .1 .1 .1 .1 .1 .0) (now (began found .args .eeprom)) in
-    data-worked (passes found whole) next (third .if4 .taken) (c .fifo-worked .ensures (whole .sizes))
+    data-worked (passes found whole) next (third .if5 .taken) (c .fifo-worked .ensures (whole .sizes))
 
 held-requires : tie.Need-held-requires
 held-requires c κs = search needs
@@ -138,8 +138,8 @@ returns-6 c whole =
     let found = sixth .before .before in
     let old = at-entry (began found) in
     let begun = c .checksum-begun in
-    let test = sym (asked .begins-checksum .ensures) ∙ tested .if8 .taken in
-    command-begins (passes found whole) (numbersState (begun .last .0) (begun .last .1 .0) old) (sixth .if7 .taken)
+    let test = sym (asked .begins-checksum .ensures) ∙ tested .if9 .taken in
+    command-begins (passes found whole) (numbersState (begun .last .0) (begun .last .1 .0) old) (sixth .if8 .taken)
     (counted .held .result) (count-length (counted .held .ensures) (old .slots)) test (λ none. begun .ensures old none (whole .sizes))
 
 command-worked-requires : tie.Need-command-worked-requires
@@ -151,7 +151,7 @@ returns-7 c whole =
     let found = sixth .before .before in
     let l = c .command-worked .last in
     let next = assembled (l .0) (l .1 .0) (l .1 .1 .0) (l .1 .1 .1 .0) (l .1 .1 .1 .1 .0) (l .1 .1 .1 .1 .1 .0) (l .1 .1 .1 .1 .1 .1 .0) (now (began found .args .eeprom)) in
-    command-worked (passes found whole) next (sixth .if7 .taken) (c .command-worked .ensures (whole .sizes))
+    command-worked (passes found whole) next (sixth .if8 .taken) (c .command-worked .ensures (whole .sizes))
 
 register-written-requires : tie.Need-register-written-requires
 register-written-requires c κs = search needs
@@ -163,7 +163,7 @@ returns-8 c whole =
     let found = third .before in
     let old = at-entry (began found) in
     let written = c .register-written in
-    other-wrote (passes found whole) (clocksStateRegisters (written .last .0) (written .last .1 .0) (written .last .1 .1 .0) old) (sixth .if7 .left) (third .if4 .left)
+    other-wrote (passes found whole) (clocksStateRegisters (written .last .0) (written .last .1 .0) (written .last .1 .1 .0) old) (sixth .if8 .left) (third .if5 .left)
     (written .ensures old (whole .sizes))
 
 pub host-write-spec : {M : Type 1} → statement M

@@ -1,29 +1,26 @@
 -- Every call, refused or not, keeps machine and journal in agreement; so does every list of calls.
 -- Assumes nothing.
-use mathlib.Core.Path.{_≡_, refl, sym, ap, _∙_, subst}
-use mathlib.Core.Bool.{Bool, true, false, cond, not, _||_, true≢false}
-use mathlib.Core.List.{List, [], _∷_, _++_, append-assoc}
-use Prim.Native.Nat.{ℕ, zero, suc, _≤_}
-use native.Mathlib.Omega.{arith}
+use mathlib.Core.Path.{_≡_, refl, sym, ap, _∙_}
+use mathlib.Core.Bool.{Bool, true, false, cond, not, _||_}
+use mathlib.Core.List.{List, [], _∷_, _++_}
+use Prim.Native.Nat.{ℕ}
 use lib.Dec.{ltb, eqb}
-use lib.ListN.{length, take, drop}
-use lib.Seq.{take-append-seam}
-use borrow.Author.Tests.{eqb-true, eqb-false}
+use lib.ListN.{length}
+use borrow.Author.Tests.{eqb-true}
 use Rattle.crc.specs.Checksum.{resultOf, afterBytes}
 use Rattle.machine.specs.State.{Machine, Checksum}
-use Rattle.machine.specs.Fifo.{firstOf}
-use Rattle.machine.specs.Frames.{sending, receiving, frameSent}
-use Rattle.machine.specs.Registers.{mapped, registerRead}
+use Rattle.machine.specs.Frames.{sending, receiving}
+use Rattle.machine.specs.Registers.{mapped}
 use Rattle.machine.specs.WellFormed.{wellFormed}
-use Rattle.machine.specs.Refusals.{Call, start, hostRead, hostWrite, advance, takeFrame, deliver, refusal, refuseIf, frameFormed}
+use Rattle.machine.specs.Refusals.{Call, start, hostRead, hostWrite, advance, takeFrame, deliver, refusal, frameFormed}
 use Rattle.machine.proofs.Performing.{passed-test, not-false}
-use Rattle.machine.specs.Events.{Outcome, accepted, perform, refused, bufferOf, started, written, readByte, afterRead, advanced, taken, delivered, bufferTaken, byte}
+use Rattle.machine.specs.Events.{accepted, perform, refused, bufferOf, started, written, afterRead, advanced, taken, delivered}
 use Rattle.machine.specs.Fifo.{alerted}
 use Rattle.journal.specs.Entries.{bytesOut, latestFrom, memoryFrom, collect}
-use Rattle.journal.specs.Journal.{Journal, empty, enterAccepted, enter, leave, Both, called, after}
+use Rattle.journal.specs.Journal.{Journal, empty, enterAccepted, enter, Both, called, after}
 use Rattle.journal.specs.Demand.{run, storedBytes, Conserved}
 use Rattle.journal.proofs.Moves.{moves-none}
-use Rattle.journal.proofs.Agreement.{Agrees, AgreesWith}
+use Rattle.journal.proofs.Agreement.{AgreesWith}
 use Rattle.journal.proofs.Calls.{written-agrees, clocks-agree, read-agrees, sent-agrees, received-agrees, started-agrees}
 
 -- A test that refuses did not hold.

@@ -20,7 +20,7 @@ use Rattle.state.specs.Formed.{chipFormed}
 use Rattle.state.specs.Meets.{coded, chipRefusal, Meets}
 use Rattle.state.specs.declared.Chip.{Chip}
 use Rattle.journal_runs.specs.Run.{Step, step, Called, Run, end, next}
-use Rattle.journal_runs.specs.Editions.{startedAnew, NoneStarted, ProgramEditions}
+use Rattle.journal_runs.specs.Editions.{NoneStarted, ProgramEditions}
 use Rattle.journal_runs.proofs.Kept.{called-meets, start-passed}
 
 -- A start that succeeds.

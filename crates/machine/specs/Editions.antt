@@ -1,19 +1,18 @@
 -- What an edition decides in the chip (manual 6.4). A start sets it, from its image; no other call changes it, or a byte of block 0, which has the product type.
 -- And nothing else goes by it: two machines that are alike but for the edition and the product type answer alike, but where a call reads those four bytes.
 -- Assumes nothing.
-use Prim.Native.Nat.{ℕ, suc}
-use mathlib.Core.Bool.{Bool, true, false, not, _&&_}
-use mathlib.Core.List.{List, [], _∷_, _++_}
+use Prim.Native.Nat.{ℕ}
+use mathlib.Core.Bool.{Bool, true, false, cond, not, _&&_}
+use mathlib.Core.List.{List, [], _∷_}
 use mathlib.Core.Path.{_≡_}
 use lib.Dec.{ltb, eqb}
-use lib.ListN.{length, take, drop, set, replicate}
+use lib.ListN.{take, drop, set, replicate}
 use Rattle.edition.specs.Edition.{isOf, editionOf, productType}
 use Rattle.edition.specs.declared.Edition.{Edition}
-use Rattle.edition.specs.declared.Edition.the-variants.{Mfrc531, Rc530}
 use Rattle.profile.specs.Shipped.{shipped, shippedImage, imageOf}
-use Rattle.machine.specs.State.{Machine, Command, Idle, WriteE2, ReadE2, LoadConfig, LoadKeyE2, LoadKey, CalcCRC, Transmit, Receive, TransceiveSending, TransceiveReceiving}
+use Rattle.machine.specs.State.{Machine, Command}
 use Rattle.machine.specs.Memory.{addressOf}
-use Rattle.machine.specs.Commands.{enough, argument, readable}
+use Rattle.machine.specs.Commands.{codeOf, enough, argument, readable}
 use Rattle.machine.specs.Registers.{mapped, registerWritten}
 use Rattle.machine.specs.Refusals.{Call, start, hostRead, hostWrite, advance, takeFrame, deliver, refusal}
 use Rattle.machine.specs.Events.{started, perform, afterCalls}
@@ -36,29 +35,21 @@ unfoldable pub NoneStarts : Machine → List Call → Type 0
 NoneStarts m [] = Unit {0}
 NoneStarts m (c ∷ cs) = (startsAnew m c ≡ false) × NoneStarts (perform m c .next) cs
 
--- The active command, which has its arguments, reads a byte of 000h-003h: ReadE2 of a count that is not 0 and that it may read, or LoadKeyE2, from an
--- address there. LoadConfig reads from 010h on.
-abbrev pub readsTypeAs : Command → Machine → Bool
-readsTypeAs Idle m = false
-readsTypeAs (WriteE2 w) m = false
-readsTypeAs ReadE2 m =
+-- A command that has its arguments reads a byte of 000h-003h: ReadE2 (03h) of a count that is not 0 and that it may read, or LoadKeyE2 (0Bh), from an address
+-- there. LoadConfig reads from 010h on.
+abbrev pub commandReadsType : Command → Machine → Bool
+commandReadsType c m =
     let address = addressOf (argument 0 m) (argument 1 m) in
     let count = argument 2 m in
-    enough 3 m && (ltb address 4 && (readable address count && not (eqb count 0)))
-readsTypeAs LoadConfig m = false
-readsTypeAs LoadKeyE2 m = enough 2 m && ltb (addressOf (argument 0 m) (argument 1 m)) 4
-readsTypeAs LoadKey m = false
-readsTypeAs CalcCRC m = false
-readsTypeAs Transmit m = false
-readsTypeAs Receive m = false
-readsTypeAs TransceiveSending m = false
-readsTypeAs TransceiveReceiving m = false
+    cond (eqb (codeOf c) 0x03) (enough 3 m && (ltb address 4 && (readable address count && not (eqb count 0))))
+    (cond (eqb (codeOf c) 0x0B) (enough 2 m && ltb address 4)
+    false)
 
 -- A call reads a byte of 000h-003h: only a host write can, since no other call gives such a command its last argument.
 abbrev pub readsType : Machine → Call → Bool
 readsType m (start image) = false
 readsType m (hostRead address) = false
-readsType m (hostWrite address v) = let n = registerWritten (mapped (m .page) address) v m in readsTypeAs (n .command) n
+readsType m (hostWrite address v) = let n = registerWritten (mapped (m .page) address) v m in commandReadsType (n .command) n
 readsType m (advance clocks) = false
 readsType m (takeFrame buffer) = false
 readsType m (deliver bytes parities lastBits) = false

@@ -1,10 +1,10 @@
 -- The six events (manual 9), each with its answer, the next machine and the buffer lent.
 -- Assumes nothing.
 use Prim.Native.Nat.{ℕ, zero, suc, _+_, _-_, _%_}
-use mathlib.Core.Bool.{Bool, true, false, cond}
+use mathlib.Core.Bool.{true, false, cond}
 use mathlib.Core.List.{List, [], _∷_, _++_}
 use lib.Dec.{eqb, leb}
-use lib.ListN.{length, take, drop, replicate}
+use lib.ListN.{length, drop, replicate}
 use Rattle.edition.specs.Edition.{editionOf}
 use Rattle.key.specs.Key.{emptyKey}
 use Rattle.machine.specs.State.{Machine, Command, Interrupts, Idle, WriteE2, ready, programming, whileProgramming, withCommand, withHeld, withEeprom}

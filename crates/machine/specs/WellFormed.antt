@@ -1,7 +1,7 @@
 -- Manual 10.3: when a state is well formed, clause by clause. A malformed one gets refusal 7.
 -- Assumes nothing.
 use Prim.Native.Nat.{ℕ, _+_, _%_, _/_, _^_}
-use mathlib.Core.Bool.{Bool, true, false, cond, not, _&&_, _||_}
+use mathlib.Core.Bool.{Bool, true, cond, _&&_}
 use mathlib.Core.List.{List, []}
 use mathlib.Core.Path.{_≡_}
 use Rattle.bits.specs.Bits.{Bytes}

@@ -1,6 +1,6 @@
 -- Bytes are programmed from 010h on, so that clocks leave block 0 as it was; the edition they do not touch.
 -- Assumes nothing.
-use Prim.Native.Nat.{ℕ, zero, suc, _+_, _-_, _%_, _≤_}
+use Prim.Native.Nat.{ℕ, zero, suc, _+_, _%_, _≤_}
 use mathlib.Core.Path.{_≡_, refl, sym, ap, _∙_}
 use mathlib.Core.Bool.{Bool, true}
 use mathlib.Core.List.{List, [], _∷_}
@@ -15,7 +15,7 @@ use Rattle.machine.specs.State.{Machine, Command, WriteE2, programming, 
 use Rattle.machine.specs.Timer.{timerClock}
 use Rattle.machine.specs.Memory.{storedFrom, programmingClocks}
 use Rattle.machine.specs.WellFormed.{commandFormed}
-use Rattle.machine.specs.Events.{programmingClocked, commandClocked, clock, clocks}
+use Rattle.machine.specs.Events.{programmingClocked, clock, clocks}
 use Rattle.machine.proofs.Cases.{by-cond, while-programming}
 use Rattle.machine.proofs.Clock.{timer-any, timer-command, end-any}
 use Rattle.machine.proofs.WellFormed.Parts.{each}

@@ -5,7 +5,6 @@ use Prim.Native.Nat.{ℕ, zero, suc, _+_, _%_, _^_, _≤_}
 use mathlib.Core.Path.{_≡_, refl, sym, ap, subst, _∙_}
 use mathlib.Core.Bool.{Bool, true, false, cond, _&&_, _||_}
 use mathlib.Core.List.{List, [], _∷_}
-use native.Mathlib.Omega.{arith}
 use lib.Dec.{ltb, leb, eqb}
 use lib.ListN.{length}
 use borrow.Author.Tests.{leb-true}
@@ -15,13 +14,12 @@ use Rattle.machine.specs.State.{Machine, Command, Writing, Idle, WriteE2
 use Rattle.machine.specs.Fifo.{registerAt, offered, offeredAll, flushed, loAlert, hiAlert, alerted}
 use Rattle.machine.specs.Timer.{timerStarted, timerStopped, timerClock, TStartTxBegin, TStartTxEnd, TStopRx}
 use Rattle.machine.specs.Memory.{addressOf, bytesFrom, storedFrom, overRegisters}
-use Rattle.machine.specs.Commands.{programs, codeOf, commandStarted, commandWritten, clearedErrors, enough, argument, taken, latched, writeStepped, readable, readBytes, readFrom, configuredFrom, keyFrom, keyJudged, raisedTx, raisedRx, ended, checksumTaken, steppedAs, stepped, settled}
+use Rattle.machine.specs.Commands.{programs, codeOf, commandStarted, commandWritten, clearedErrors, enough, argument, taken, writeStepped, readable, readBytes, readFrom, configuredFrom, keyFrom, keyJudged, raisedTx, raisedRx, ended, checksumTaken, steppedAs, stepped, settled}
 use Rattle.machine.specs.Frames.{sending, txBegun, txEnded, afterSending, sent, parityWrong, anyParityWrong, parityFails, crcFails, passed, completeBytes, withFrameErrors, rxStopped, received}
 use Rattle.machine.specs.Registers.{mapped, controlWritten, registerWritten}
-use Rattle.machine.specs.WellFormed.{commandFormed}
 use Rattle.machine.specs.Events.{batchStored, programmed, programmingClocked, commandClocked, clock, clocks, written, afterRead, advanced, delivered}
 use Rattle.machine.specs.Events as events
-use Rattle.machine.proofs.Cases.{by-cond, either, while-programming}
+use Rattle.machine.proofs.Cases.{either, while-programming}
 use Rattle.machine.proofs.Editions.Block0.{above, clock-goes}
 
 -- A machine with this edition, and this in the place of its memory.

@@ -21,8 +21,8 @@ use Rattle.machine.specs.Frames.{sending, receiving}
 use Rattle.machine.specs.Registers.{mapped, registerRead, registerWritten}
 use Rattle.machine.specs.WellFormed.{fifoFormed, wellFormed}
 use Rattle.machine.specs.Refusals.{Call, start, hostRead, hostWrite, advance, takeFrame, deliver, refusal, refuseIf, frameFormed}
-use Rattle.machine.specs.Events.{Outcome, Answer, refused, accepted, bufferOf, bufferTaken, readByte, perform, afterCalls, started, written}
-use Rattle.machine.specs.Editions.{isStart, startsAnew, NoneStarts, readsTypeAs, readsType, Alike, OwnType, AnswersAlike, EachAlike, NoneReads, typeRead, Editions}
+use Rattle.machine.specs.Events.{Outcome, refused, accepted, bufferOf, bufferTaken, readByte, perform, afterCalls, started, written}
+use Rattle.machine.specs.Editions.{isStart, startsAnew, NoneStarts, commandReadsType, readsType, Alike, OwnType, AnswersAlike, EachAlike, NoneReads, typeRead, Editions}
 use Rattle.machine.proofs.Cases.{by-cond}
 use Rattle.machine.proofs.Performing.{as-accepted, passed-test, not-false}
 use Rattle.machine.proofs.WellFormed.Parts.{each, othersFormed, well-command}
@@ -124,7 +124,7 @@ module _ (e : Edition) (b : List ℕ) (has : 4 ≤ length b) where
           let zero = eqb-true n 0 en in ap (readBytes (g l) a) zero ∙ sym (ap (readBytes l a) zero)
       go true near true em false en h = absurd (true≢false h)
 
-  unread : (c : Command) (m : Machine) → readsTypeAs c m ≡ false → SameReads e g c m
+  unread : (c : Command) (m : Machine) → commandReadsType c m ≡ false → SameReads e g c m
   unread Idle m h = tt
   unread (WriteE2 w) m h = tt
   unread ReadE2 m h = λ t.

@@ -1,22 +1,21 @@
 -- What a write to Command does, by the tests that the code makes.
 -- Assumes nothing.
 use Prim.Native.Nat.{ℕ, _%_}
-use native.Mathlib.Omega.{arith}
 use mathlib.Core.Path.{_≡_, refl, sym, ap, _∙_}
 use mathlib.Core.Bool.{Bool, true, false, cond, not, and-false, _&&_}
 use mathlib.Core.List.{List}
-use lib.Dec.{eqb}
-use lib.ListN.{set, length-set}
+use lib.Dec.{eqb, lit<}
+use lib.ListN.{set}
 use borrow.Author.Tests.{ne-eqb}
 use Rattle.machine.specs.State.{Machine, Writing, WriteE2, addressing, ready, programming, withChecksum}
 use Rattle.machine.specs.Commands.{programs, clearedErrors, ended, commandStarted, commandWritten}
 use Rattle.state.specs.View.{Core, commandOf, view, viewOf, withNumbers}
-use Rattle.state.specs.Formed.{writes, fieldsFormed}
+use Rattle.state.specs.Formed.{writes}
 use Rattle.state.specs.Turns.{Sizes, Turned}
 use Rattle.state.specs.declared.Chip.{Chip}
 use Rattle.state.proofs.StageLaws.{by-stage}
-use Rattle.state.proofs.StoreLaws.{at-set, stored}
-use Rattle.state.proofs.TurnLaws.{becomes, sized-numbers}
+use Rattle.state.proofs.StoreLaws.{set-number}
+use Rattle.state.proofs.TurnLaws.{becomes}
 
 -- A WriteE2 programs where clocks are left, and no other command does.
 by-left : (none : Bool) (resting : Writing) (a : ℕ) (bs : List ℕ) (left : ℕ) → programs (WriteE2 resting) ≡ false →
@@ -40,10 +39,8 @@ abbrev pub withRegister : ℕ → Machine → Machine
 withRegister x m = withChecksum (record { register = x; mode = m .checksum .mode }) m
 
 pub register-stored : (x : ℕ) (c : Chip) → Sizes c → Turned (withRegister x) c (withNumbers (set (c .numbers) 0 x) c)
-unfolding viewOf fieldsFormed
-register-stored x c sizes =
-    stored (withNumbers (set (c .numbers) 0 x) c) refl (at-set (c .numbers) 0 x (omega (arith, sizes .number-count))) refl (withRegister x) c
-    (sized-numbers sizes (set (c .numbers) 0 x) (length-set (c .numbers) 0 x ∙ sizes .number-count)) refl (λ formed. formed)
+unfolding viewOf
+register-stored x c sizes = set-number (withRegister x) 0 x c (lit< tt) refl sizes refl
 
 -- A write, by whether programming runs.
 module _ (v : ℕ) (m : Machine) where

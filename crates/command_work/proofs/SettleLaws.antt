@@ -4,12 +4,14 @@ use Prim.Native.Nat.{ℕ, _%_, _<_, _≤_}
 use mathlib.Core.Path.{_≡_, refl, sym, ap, _∙_}
 use mathlib.Core.Bool.{Bool, true, false, cond}
 use mathlib.Core.List.{List}
+use lib.Dec.{eqb}
 use lib.ListN.{length}
 use borrow.Author.Tests.{eq-eqb, ne-eqb, lt-leb, le-leb}
 use Rattle.machine.specs.State.{Machine, Command, WriteE2, CalcCRC, addressing, ready, withCommand}
 use Rattle.machine.specs.Memory.{addressOf}
-use Rattle.machine.specs.Commands.{raisedTx, ended, enough, argument, taken, checksumTaken, writeStepped, steppedAs, stepped, settled}
+use Rattle.machine.specs.Commands.{codeOf, raisedTx, ended, enough, argument, taken, checksumTaken, writeStepped, steppedAs, stepped, settled, lostSettling}
 use Rattle.machine.proofs.Cases.{by-cond}
+use Rattle.machine.proofs.Lost.{other-loses-none}
 use Rattle.machine.proofs.Settling.{settled-by}
 use Rattle.state.specs.View.{Core, commandOf}
 use Rattle.state.proofs.StageLaws.{by-stage}
@@ -78,3 +80,11 @@ module _ (k : Core) (latch : List ℕ) where
 
     pub programs-on : k .stage ≡ 0x41 → m ≡ steppedAs (commandOf k latch) m
     programs-on stage = rw (stage, ne-eqb (k .left) 0 some) refl
+
+-- Only ReadE2's stage is that of a command that loses bytes.
+pub stage-loses-none : (k : Core) (latch : List ℕ) (m : Machine) → m .command ≡ commandOf k latch → eqb (k .stage) 0x03 ≡ false → 0 ≡ lostSettling m
+stage-loses-none k latch m is other =
+    sym
+    (other-loses-none m
+    (ap (λ (c : Command). eqb (codeOf c) 0x03) is
+    ∙ sym (by-stage (λ s c. eqb s 0x03 ≡ eqb (codeOf c) 0x03) k latch refl refl refl refl refl refl refl refl refl refl refl (λ o. o .n03)) ∙ other))

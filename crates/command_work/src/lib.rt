@@ -1,7 +1,8 @@
 // What the active command does with waiting bytes (manual 7), by its stage.
-ghost use Rattle.machine.specs.Commands.{settled};
+ghost use Prim.Native.Nat.{_≤_};
+ghost use Rattle.machine.specs.Commands.{settled, lostSettling};
 ghost use Rattle.state.specs.Lent.{assembled};
-ghost use Rattle.state.specs.Turns.{TurnsAll};
+ghost use Rattle.state.specs.Turns.{TurnsAllLosing};
 use command_calc_crc::calc_crc;
 use command_load_config::load_config;
 use command_load_key::load_key;
@@ -14,7 +15,7 @@ use state::STAGE;
 use state::held;
 
 // All that it does at once: WriteE2 takes its address and then latches bytes, every other command needs one step. Idle and the commands that send or receive
-// take no waiting byte here, and neither does a WriteE2 that programs.
+// take no waiting byte here, and neither does a WriteE2 that programs. Answers how many bytes were lost: only ReadE2 offers any.
 pub fn worked(
     clocks: &mut [u32; 2],
     numbers: &mut [u16; 6],
@@ -24,37 +25,52 @@ pub fn worked(
     latch: &mut [u8; 16],
     key: &mut [u8; 6],
     eeprom: &[u8; 512],
-)
-    ensures { λ r.
+) -> u8
+    ensures turns { λ r.
         let before = assembled (now (clocks .entry)) (now (numbers .entry)) (now (state .entry)) (now (registers .entry))
         (now (slots .entry)) (now (latch .entry)) (now (key .entry)) (now (eeprom .entry)) in
         let after = assembled (now (clocks .exit)) (now (numbers .exit)) (now (state .exit)) (now (registers .exit))
         (now (slots .exit)) (now (latch .exit)) (now (key .exit)) (now (eeprom .entry)) in
-        ⌜ TurnsAll settled before after ⌝ }
+        ⌜ TurnsAllLosing settled lostSettling before after r ⌝ }
+    ensures small { λ r. ⌜ r ≤ 128 ⌝ }
 {
     let stage = state[STAGE];
     match stage {
         0x01 => {
             if clocks[LEFT] != 0 {
-                return;
+                return 0;
             }
             if held(state) < 2 {
-                return;
+                return 0;
             }
             address_taken(clocks, numbers, state, slots);
             bytes_latched(clocks, numbers, state, slots, latch);
+            0
         }
         0x41 => {
             if clocks[LEFT] != 0 {
-                return;
+                return 0;
             }
             bytes_latched(clocks, numbers, state, slots, latch);
+            0
         }
-        0x03 => read_e2(clocks, state, slots, eeprom),
-        0x07 => load_config(clocks, state, registers, slots, eeprom),
-        0x0B => load_key_e2(clocks, state, slots, key, eeprom),
-        0x12 => calc_crc(numbers, state, slots),
-        0x19 => load_key(clocks, state, slots, key),
-        _ => {}
+        0x03 => read_e2(clocks, numbers, state, slots, eeprom),
+        0x07 => {
+            load_config(clocks, state, registers, slots, eeprom);
+            0
+        }
+        0x0B => {
+            load_key_e2(clocks, state, slots, key, eeprom);
+            0
+        }
+        0x12 => {
+            calc_crc(numbers, state, slots);
+            0
+        }
+        0x19 => {
+            load_key(clocks, state, slots, key);
+            0
+        }
+        _ => 0,
     }
 }

@@ -1,8 +1,10 @@
 // The six events by value: the chip is passed in, and handed back with the answer. Each copies the arrays into locals and lends those to the event on the
-// arrays.
+// arrays. So does the call for the sum of lost bytes, which hands no chip back, since it changes none.
+ghost use mathlib.Core.Path.{_≡_};
 ghost use mathlib.Core.List.{[]};
 ghost use Rattle.machine.specs.Refusals.{start as Refusals·start, hostRead, hostWrite, advance as Refusals·advance, takeFrame, deliver as Refusals·deliver};
 ghost use Rattle.state.specs.Meets.{Meets};
+ghost use Rattle.state.specs.LostSum.{lostSumOf};
 use state::Chip;
 
 // What an event by value gives back: the next chip, and the number answered.
@@ -210,7 +212,7 @@ pub fn deliver(chip: Chip, bytes: &[u8], parities: &[u8], last_bits: u8) -> Outc
         ⌜ Meets chip call (r .chip) (r .answer) [] ⌝ }
 {
     let mut clocks = chip.clocks;
-    let numbers = chip.numbers;
+    let mut numbers = chip.numbers;
     let mut state = chip.state;
     let registers = chip.registers;
     let mut slots = chip.slots;
@@ -219,7 +221,7 @@ pub fn deliver(chip: Chip, bytes: &[u8], parities: &[u8], last_bits: u8) -> Outc
     let eeprom = chip.eeprom;
     let delivered = event_frame_deliver::deliver(
         &mut clocks,
-        &numbers,
+        &mut numbers,
         &mut state,
         &registers,
         &mut slots,
@@ -242,4 +244,15 @@ pub fn deliver(chip: Chip, bytes: &[u8], parities: &[u8], last_bits: u8) -> Outc
         chip: next,
         answer: delivered,
     }
+}
+
+// The sum of lost bytes.
+pub fn lost_sum(chip: Chip) -> u32
+    ensures { λ r. ⌜ r ≡ lostSumOf chip ⌝ }
+{
+    let clocks = chip.clocks;
+    let numbers = chip.numbers;
+    let state = chip.state;
+    let eeprom = chip.eeprom;
+    query_lost_sum::lost_sum(&clocks, &numbers, &state, &eeprom)
 }

@@ -1,4 +1,5 @@
-// The C interface (include/mfrc531.h; manual 13.2): the six events on a chip that the caller lends, the profile check, and the choice for a safe start.
+// The C interface (include/mfrc531.h; manual 13.2): the six events on a chip that the caller lends, the sum of lost bytes, the profile check, and the choice for
+// a safe start.
 //
 // An event lends the chip's arrays where they lie to the event on the arrays, and answers its number. Nothing is copied.
 ghost use mathlib.Core.Path.{_≡_};
@@ -6,6 +7,7 @@ ghost use mathlib.Core.List.{[]};
 ghost use Rattle.profile_choice.specs.Choice.{chosen};
 ghost use Rattle.machine.specs.Refusals.{start, hostRead, hostWrite, advance, takeFrame, deliver};
 ghost use Rattle.state.specs.Meets.{Meets};
+ghost use Rattle.state.specs.LostSum.{MeetsSum};
 ghost use Rattle.profile_number.specs.Numbers.{profileNumber};
 ghost use Rattle.entry_in_place.specs.Numbers.{judgedFor, choiceNumber};
 use edition::Edition;
@@ -119,7 +121,7 @@ pub extern "C" fn mfrc531_deliver(
 {
     event_frame_deliver::deliver(
         &mut chip.clocks,
-        &chip.numbers,
+        &mut chip.numbers,
         &mut chip.state,
         &chip.registers,
         &mut chip.slots,
@@ -128,6 +130,14 @@ pub extern "C" fn mfrc531_deliver(
         parities,
         last_bits,
     )
+}
+
+// The sum of lost bytes. The chip stays as it is.
+#[no_mangle]
+pub extern "C" fn mfrc531_lost_sum(chip: &mut Chip) -> u32
+    ensures { λ r. ⌜ MeetsSum (now (chip .entry)) (now (chip .exit)) r ⌝ }
+{
+    query_lost_sum::lost_sum(&chip.clocks, &chip.numbers, &chip.state, &chip.eeprom)
 }
 
 // The check of a start-up profile, for the edition that a number stands for.

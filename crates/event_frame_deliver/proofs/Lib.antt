@@ -1,2 +1,1 @@
-pub mod OfferLaws
 pub mod DeliverLaws

@@ -1,6 +1,6 @@
 -- What a write leaves to the active command, by what the code knows: nothing, or CalcCRC's sum of one byte; the stage that CalcCRC begins with; and the alerts.
 -- Assumes nothing.
-use Prim.Native.Nat.{ℕ, _%_, _<_, _≤_}
+use Prim.Native.Nat.{ℕ, _+_, _%_, _<_, _≤_}
 use native.Mathlib.Omega.{arith}
 use mathlib.Core.Path.{_≡_, refl, sym, ap, _∙_}
 use mathlib.Core.Bool.{Bool, true, false, cond, true≢false, _&&_, _||_}
@@ -12,11 +12,12 @@ use Rattle.bits.specs.Bits.{bitSet}
 use Rattle.crc.specs.Checksum.{afterBytes}
 use Rattle.machine.specs.State.{Machine, Command, Idle, WriteE2, ReadE2, LoadConfig, LoadKeyE2, LoadKey, CalcCRC, Transmit, Receive, TransceiveSending, TransceiveReceiving, addressing, ready, programming, withHeld, withCommand}
 use Rattle.machine.specs.WellFormed.{waits}
-use Rattle.machine.specs.Fifo.{offered, flushed, alerted}
+use Rattle.machine.specs.Fifo.{offered, lostAt, flushed, alerted}
 use Rattle.machine.specs.Timer.{timerStarted, timerStopped}
-use Rattle.machine.specs.Commands.{programs, clearedErrors, commandStarted, commandWritten, enough, steppedAs, settled}
-use Rattle.machine.specs.Registers.{controlWritten, registerWritten}
+use Rattle.machine.specs.Commands.{codeOf, programs, clearedErrors, commandStarted, commandWritten, enough, steppedAs, settled, lostSettling}
+use Rattle.machine.specs.Registers.{controlWritten, registerWritten, lostAtRegister}
 use Rattle.machine.proofs.Cases.{by-cond, either}
+use Rattle.machine.proofs.Lost.{other-loses-none, waiting-loses-none}
 use Rattle.machine.proofs.WellFormed.Parts.{both}
 use Rattle.state.specs.View.{Core, core, commandOf, view, viewOf, withState}
 use Rattle.state.specs.Formed.{agree}
@@ -25,9 +26,9 @@ use Rattle.state.specs.declared.Chip.{Chip}
 use Rattle.state.proofs.StoreLaws.{at-set, stored, next-near, bytes-agree}
 use Rattle.state.proofs.TurnLaws.{then, sized-state}
 use Rattle.state_fifo.specs.Alerts.{alertsOf, alertedFrom}
-use Rattle.state_fifo.proofs.FifoLaws.{offer-stored}
+use Rattle.state_fifo.proofs.FifoLaws.{offer-stored, none-lost}
 use Rattle.command_begin.proofs.BeginLaws.{write-starts}
-use Rattle.command_work.proofs.SettleLaws.{settled-rests, settled-sums, others-rest}
+use Rattle.command_work.proofs.SettleLaws.{settled-rests, settled-sums, others-rest, stage-loses-none}
 use Rattle.register_write.specs.Written.{otherWritten}
 use Rattle.register_write.proofs.WriteLaws.{quiet, judged}
 use Rattle.event_host_write.specs.Summing.{byteSummed, checksumBegun}
@@ -72,6 +73,13 @@ byte-waits v m k latch is test =
     apart : (s : ℕ) → (eqb s 0x00 || leb 0x5A s) ≡ false → k .stage ≡ s → ⊥
     apart s fails e = true≢false (sym test ∙ ap (λ (n : ℕ). eqb n 0x00 || leb 0x5A n) e ∙ fails)
 
+-- No byte beside its own is lost then.
+pub byte-waiting-loses : (v : ℕ) (m : Machine) (k : Core) (latch : List ℕ) → commandOf k latch ≡ m .command → (eqb (k .stage) 0x00 || leb 0x5A (k .stage)) ≡ true →
+    0 ≡ lostSettling (offered v m)
+byte-waiting-loses v m k latch is test =
+    stage-loses-none k latch (offered v m) (sym (is ∙ offered-command v m))
+    (ne-eqb (k .stage) 0x03 (λ e. true≢false (sym test ∙ ap (λ (n : ℕ). eqb n 0x00 || leb 0x5A n) e)))
+
 -- CalcCRC that holds nothing takes a byte at once. No alert moves, since none is held after it either.
 no-bytes : (l : List ℕ) → length l ≤ 0 → l ≡ []
 no-bytes [] none = refl
@@ -85,6 +93,10 @@ byte-summed v m is none =
     quiet m (byteSummed v m) refl refl
     ∙ ap (alerted m) (ap (λ (l : List ℕ). withHeld l (byteSummed v m)) empty ∙ settled-sums (withHeld (v ∷ []) m) is ∙ ap settled (sym offers))
 
+pub byte-summed-loses : (v : ℕ) (m : Machine) → m .command ≡ CalcCRC → length (m .held) ≤ 0 → 0 ≡ lostAt m + lostSettling (offered v m)
+byte-summed-loses v m is none =
+    omega (arith, none-lost m (omega arith), other-loses-none (offered v m) (ap (λ (c : Command). eqb (codeOf c) 0x03) (sym (offered-command v m) ∙ is)))
+
 -- CalcCRC begins where nothing is held and no programming runs.
 pub checksum-begins : (v : ℕ) (m : Machine) → v % 64 ≡ 0x12 → programs (m .command) ≡ false → length (m .held) ≤ 0 →
     checksumBegun m ≡ alerted m (settled (commandWritten v m))
@@ -93,6 +105,10 @@ checksum-begins v m code free none =
     ∙ ap (alerted m)
     (settled-rests (checksumBegun m) (rests CalcCRC (checksumBegun m) none)
     ∙ ap settled (ap (λ (n : ℕ). commandStarted n (clearedErrors m)) (sym code) ∙ write-starts v m free))
+
+pub begun-loses : (v : ℕ) (m : Machine) → v % 64 ≡ 0x12 → programs (m .command) ≡ false → 0 ≡ lostSettling (commandWritten v m)
+begun-loses v m code free =
+    sym (other-loses-none (checksumBegun m) refl) ∙ ap lostSettling (ap (λ (n : ℕ). commandStarted n (clearedErrors m)) (sym code) ∙ write-starts v m free)
 
 -- Its stage is stored, where no programming clocks are left: so the fields go on agreeing.
 pub checksum-staged : (c : Chip) → core c .left ≡ 0 → Sizes c → Turned (withCommand CalcCRC) c (withState (set (c .state) 12 0x12) c)
@@ -141,11 +157,19 @@ module _ (m : Machine) where
         (either Kept (eqb r 0x0F) _ _ (keep _ same)
         (either Kept (leb 0x10 r && ltb r 0x30) _ _ (keep _ same) (keep _ same))))))))
 
-    pub other-settles : length (m .held) ≤ waits (m .command) → otherWritten r v m ≡ settled (registerWritten r v m)
-    unfolding otherWritten
-    other-settles few =
-        let x = registerWritten r v m in
-        let (command, held) = written-keeps .is in
-        let fewer : length (x .held) ≤ waits (x .command) = rw command (omega arith) in
-        let is : otherWritten r v m ≡ x = simp (ne-eqb r 0x01 n01, ne-eqb r 0x02 n02) in
-        is ∙ settled-rests x (rests (x .command) x fewer)
+    -- So no more bytes are held than may wait.
+    module _ (few : length (m .held) ≤ waits (m .command)) where
+      fewer : length (registerWritten r v m .held) ≤ waits (registerWritten r v m .command)
+      fewer = let (command, held) = written-keeps .is in rw command (omega arith)
+
+      pub other-settles : otherWritten r v m ≡ settled (registerWritten r v m)
+      unfolding otherWritten
+      other-settles =
+          let x = registerWritten r v m in
+          let is : otherWritten r v m ≡ x = simp (ne-eqb r 0x01 n01, ne-eqb r 0x02 n02) in
+          is ∙ settled-rests x (rests (x .command) x fewer)
+
+      pub other-loses : 0 ≡ lostAtRegister r m + lostSettling (registerWritten r v m)
+      other-loses =
+          let own : 0 ≡ lostAtRegister r m = ap (λ (t : Bool). cond t (lostAt m) 0) (sym (ne-eqb r 0x02 n02)) in
+          omega (arith, own, waiting-loses-none (registerWritten r v m) fewer)

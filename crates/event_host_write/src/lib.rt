@@ -4,11 +4,12 @@
 // byte after byte, has ways of its own, in which no byte passes through the FIFO.
 ghost use mathlib.Core.Path.{_≡_};
 ghost use mathlib.Core.List.{[]};
-ghost use Rattle.machine.specs.Fifo.{offered as Fifo·offered, alerted as Fifo·alerted};
-ghost use Rattle.machine.specs.Commands.{commandWritten, settled};
+ghost use Prim.Native.Nat.{_+_};
+ghost use Rattle.machine.specs.Fifo.{offered as Fifo·offered, lostAt, alerted as Fifo·alerted};
+ghost use Rattle.machine.specs.Commands.{commandWritten, settled, lostSettling};
 ghost use Rattle.machine.specs.Refusals.{hostWrite};
 ghost use Rattle.state.specs.Lent.{numbersState, numbersStateRegisters, assembled};
-ghost use Rattle.state.specs.Turns.{Turns, TurnsAll};
+ghost use Rattle.state.specs.Turns.{Turns, TurnsAllLosing};
 ghost use Rattle.state.specs.Meets.{Promises};
 ghost use Rattle.event_host_write.specs.Summing.{byteSummed, checksumBegun, onlyBegins, TurnsUnprogrammed};
 use command_begin::checksum_started;
@@ -23,6 +24,7 @@ use state::PAGE;
 use state::STAGE;
 use state::cleared;
 use state::held;
+use state::losing;
 use state::requested;
 use state_fifo::alerted;
 use state_fifo::alerts_of;
@@ -43,7 +45,7 @@ fn checksum_fed(numbers: &mut [u16; 6], state: &mut [u8; 24], v: u8)
     requested(state, 0x10);
 }
 
-// A byte is offered to the FIFO, the active command does what it can, and the alerts are judged.
+// A byte is offered to the FIFO, the active command does what it can, and the alerts are judged. Answers how many bytes were lost.
 fn fifo_worked(
     clocks: &mut [u32; 2],
     numbers: &mut [u16; 6],
@@ -54,18 +56,19 @@ fn fifo_worked(
     key: &mut [u8; 6],
     eeprom: &[u8; 512],
     v: u8,
-)
+) -> u8
     ensures { λ r.
         let before = assembled (now (clocks .entry)) (now (numbers .entry)) (now (state .entry)) (now (registers .entry))
         (now (slots .entry)) (now (latch .entry)) (now (key .entry)) (now (eeprom .entry)) in
         let after = assembled (now (clocks .exit)) (now (numbers .exit)) (now (state .exit)) (now (registers .exit))
         (now (slots .exit)) (now (latch .exit)) (now (key .exit)) (now (eeprom .entry)) in
-        ⌜ TurnsAll (λ m. Fifo·alerted m (settled (Fifo·offered v m))) before after ⌝ }
+        ⌜ TurnsAllLosing (λ m. Fifo·alerted m (settled (Fifo·offered v m))) (λ m. lostAt m + lostSettling (Fifo·offered v m)) before after r ⌝ }
 {
     let before = alerts_of(state, registers);
-    offered(state, slots, v);
-    worked(clocks, numbers, state, registers, slots, latch, key, eeprom);
+    let own = offered(numbers, state, slots, v);
+    let others = worked(clocks, numbers, state, registers, slots, latch, key, eeprom);
     alerted(state, registers, before);
+    own + others
 }
 
 // A write to Command begins CalcCRC and nothing else happens: CalcCRC's code, no byte held, and no programming clocks left.
@@ -87,7 +90,8 @@ fn checksum_begun(numbers: &mut [u16; 6], state: &mut [u8; 24], registers: &[u8;
     state[STAGE] = 0x12;
 }
 
-// Command is written, the command that is active then does what it can with bytes that wait already, and the alerts are judged.
+// Command is written, the command that is active then does what it can with bytes that wait already, and the alerts are judged. Answers how many bytes were
+// lost.
 fn command_worked(
     clocks: &mut [u32; 2],
     numbers: &mut [u16; 6],
@@ -98,18 +102,19 @@ fn command_worked(
     key: &mut [u8; 6],
     eeprom: &[u8; 512],
     v: u8,
-)
+) -> u8
     ensures { λ r.
         let before = assembled (now (clocks .entry)) (now (numbers .entry)) (now (state .entry)) (now (registers .entry))
         (now (slots .entry)) (now (latch .entry)) (now (key .entry)) (now (eeprom .entry)) in
         let after = assembled (now (clocks .exit)) (now (numbers .exit)) (now (state .exit)) (now (registers .exit))
         (now (slots .exit)) (now (latch .exit)) (now (key .exit)) (now (eeprom .entry)) in
-        ⌜ TurnsAll (λ m. Fifo·alerted m (settled (commandWritten v m))) before after ⌝ }
+        ⌜ TurnsAllLosing (λ m. Fifo·alerted m (settled (commandWritten v m))) (λ m. lostSettling (commandWritten v m)) before after r ⌝ }
 {
     let before = alerts_of(state, registers);
     command_written(clocks, numbers, state, registers, v);
-    worked(clocks, numbers, state, registers, slots, latch, key, eeprom);
+    let lost = worked(clocks, numbers, state, registers, slots, latch, key, eeprom);
     alerted(state, registers, before);
+    lost
 }
 
 // A host write: refusals in their order, and then the register. A byte written to FIFOData passes through where CalcCRC is active, which in a well-formed chip
@@ -149,10 +154,9 @@ pub fn host_write<'a>(
             return 0;
         }
         if (stage == 0x00) | (stage >= 0x5A) {
-            fifo_written(state, registers, slots, v);
-            return 0;
+            return losing(fifo_written(numbers, state, registers, slots, v));
         }
-        fifo_worked(
+        let lost = fifo_worked(
             clocks,
             numbers,
             state,
@@ -163,14 +167,14 @@ pub fn host_write<'a>(
             eeprom,
             v,
         );
-        return 0;
+        return losing(lost);
     }
     if register == 0x01 {
         if begins_checksum(v, held(state), clocks[LEFT]) {
             checksum_begun(numbers, state, registers);
             return 0;
         }
-        command_worked(
+        let lost = command_worked(
             clocks,
             numbers,
             state,
@@ -181,8 +185,8 @@ pub fn host_write<'a>(
             eeprom,
             v,
         );
-        return 0;
+        return losing(lost);
     }
-    register_written(clocks, state, registers, register, v);
+    register_written(clocks, numbers, state, registers, register, v);
     0
 }

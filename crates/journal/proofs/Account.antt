@@ -2,11 +2,11 @@
 -- Assumes nothing.
 use mathlib.Core.Path.{_≡_, refl, sym, ap, _∙_, subst}
 use mathlib.Core.Bool.{Bool, true, false, cond, not, _&&_, _||_, true≢false, false≢true}
-use mathlib.Core.List.{List, [], _∷_, _++_, map, append-assoc, append-nil, append-cancel-right, head-eq-of-cons-eq, tail-eq-of-cons-eq}
+use mathlib.Core.List.{List, [], _∷_, _++_, map, append-assoc, append-nil, append-cancel-left, append-cancel-right, head-eq-of-cons-eq, tail-eq-of-cons-eq}
 use Prim.Native.Nat.{ℕ, suc, _+_}
 use native.Mathlib.Omega.{arith}
 use lib.Dec.{ltb, eqb}
-use lib.ListN.{length, take, drop}
+use lib.ListN.{length, take, drop, drop-of-length-le}
 use lib.Seq.{drop-append-seam}
 use borrow.Author.Tests.{eqb-true, eq-eqb}
 use Rattle.machine.specs.State.{Machine, Command, TransceiveReceiving, withCommand, withHeld}
@@ -16,11 +16,11 @@ use Rattle.machine.specs.Frames.{sending, receiving, txBegun, txEnded, afterSen
 use Rattle.machine.specs.Registers.{mapped}
 use Rattle.machine.specs.WellFormed.{wellFormed}
 use Rattle.machine.specs.Refusals.{Call, start, hostRead, hostWrite, advance, takeFrame, deliver, refusal, frameFormed}
-use Rattle.machine.specs.Events.{Answer, byte, refused, bufferOf, accepted, perform, started, written, afterRead, advanced, taken, delivered}
+use Rattle.machine.specs.Events.{Answer, byte, lost, refused, bufferOf, accepted, perform, started, written, afterRead, advanced, taken, delivered}
 use Rattle.machine.proofs.Performing.{passed-test, not-false}
 use Rattle.machine.proofs.Cases.{while-programming}
 use Rattle.journal.specs.Entries as e
-use Rattle.journal.specs.Entries.{Entry, Byte, Memory, remembered, memoryFrom, bytesTo, keyBytes, collect}
+use Rattle.journal.specs.Entries.{Entry, Byte, Memory, remembered, memoryFrom, bytesTo, bytesAway, keyBytes, collect}
 use Rattle.journal.specs.Journal.{Journal, leaveFrom, leave, leaveAll, offerAll, enterAccepted, enter, enterClocks, Both}
 use Rattle.journal.specs.Demand.{run, batch, waiting, storedBytes, ReadOf, NextCall}
 use Rattle.journal.specs.Account.{added, memoryBytes, startImages, AtAddresses, AccountedBy, Accounted, EveryCall}
@@ -28,6 +28,7 @@ use Rattle.journal.proofs.Folds.{collect-append, memory-append}
 use Rattle.journal.proofs.Adding.{none-of, offers-add}
 use Rattle.journal.proofs.Agreement.{AgreesWith, memoryOf, stored-parts}
 use Rattle.journal.proofs.Calls.{receiving-latch}
+use Rattle.journal.proofs.Lost.{lostIn, call-loses, offer-says, other-says}
 use Rattle.journal.proofs.Run.{or-first, call-agrees, run-agrees}
 use Rattle.journal.proofs.Demand.{next-call}
 use Rattle.journal.proofs.Clocks.{clocks-enter}
@@ -297,11 +298,16 @@ module _ (image : List ℕ) (m : Machine) (j : Journal) (a : AgreesWith image m 
       let b = call-agrees image c m j a in
       let xs = p .entries in
       let o = perform m c in
+      let l = call-loses image c m j a in
+      let away : length (collect bytesAway xs) ≡ lostIn (o .answer) =
+      ap (λ (z : List Entry). length (collect bytesAway z)) (append-cancel-left (j .entries) xs (l .entries) (sym (p .appended) ∙ l .appended)) ∙ l .told in
       let same : added c before ≡ xs = ap (drop (length (j .entries))) (p .appended) ∙ drop-append-seam (j .entries) xs in
       subst (λ (z : List Entry). AccountedBy z code before c (code (o .answer)) (o .buffer) (o .next)) (sym same)
       (record {
         appended = p .appended;
         refused-adds-nothing = p .refused-none;
+        away-answer = λ is ok. ap code (offer-says c m is ok ∙ ap lost (sym away));
+        none-away = λ is. drop-of-length-le (collect bytesAway xs) {i = 0} (omega (arith, away, other-says c m is));
         to-host = λ x bs h. let (alone, is) = p .host x bs h in (alone, ap code is);
         none-to-host = λ r h. ap code (p .none-host r h);
         length-read = λ r. ap code (next .length-answer c r);

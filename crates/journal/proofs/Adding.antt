@@ -14,7 +14,7 @@ use Rattle.machine.specs.Memory.{roomInBlock}
 use Rattle.machine.specs.Commands.{codeOf, programs, commandWritten}
 use Rattle.machine.proofs.Cases.{either, within-write-e2}
 use Rattle.journal.specs.Entries as e
-use Rattle.journal.specs.Entries.{Entry, collect}
+use Rattle.journal.specs.Entries.{Entry, Destination, collect}
 use Rattle.journal.specs.Journal.{Journal, entered, offer, offerAll, leaveFrom, leave, leaveAll, Use, address, number, key, checksum, memory, leaveAs, leaveAllAs, usesOf, based, basedWithin, basedBy, addressHeld, offersOf, begun, enterCommand, enterRegister}
 
 module _ (P : Entry → Type 0) where
@@ -64,7 +64,7 @@ module _ (P : Entry → Type 0) where
       go [] = adds-none j j refl
       go (b ∷ h) = adds-one j _ (x b) refl (p b)
 
-  map-adds : (x : ℕ → Entry) → ((b : ℕ) → P (x b)) → (h : List ℕ) (j k : Journal) → k .entries ≡ j .entries ++ map x h → Adds j k
+  pub map-adds : (x : ℕ → Entry) → ((b : ℕ) → P (x b)) → (h : List ℕ) (j k : Journal) → k .entries ≡ j .entries ++ map x h → Adds j k
   map-adds x p [] j k is = adds-none j k (is ∙ append-nil (j .entries))
   map-adds x p (b ∷ h) j k is =
       let next : Journal = record { entries = j .entries ++ x b ∷ []; held = []; base = 0; count = 0 } in
@@ -114,6 +114,21 @@ module _ (P : Entry → Type 0) where
   uses-add [] p j = adds-none j j refl
   uses-add (u ∷ us) (p, ps) j = adds-both (use-adds u p j) (uses-add us ps (leaveAs u j))
 
+  -- Where every entry by which a byte leaves has it, so have those by which bytes leave to a command.
+  pub leaving-adds : ((to : Destination) (b : ℕ) → P (e.left to b)) → ((a b : ℕ) → P (e.toMemory a b)) → (us : List Use) (j : Journal) → Adds j (leaveAllAs us j)
+  leaving-adds leaves stores us j = uses-add us (all us) j
+    where
+      each : (u : Use) → Used u
+      each address = leaves e.address
+      each number = leaves e.count
+      each key = leaves e.key
+      each checksum = leaves e.checksum
+      each memory = stores
+
+      all : (us : List Use) → AllUsed us
+      all [] = tt
+      all (u ∷ us) = (each u, all us)
+
   repeated : (n : ℕ) (u : Use) → Used u → AllUsed (replicate n u)
   repeated zero u p = tt
   repeated (suc n) u p = (p, repeated n u p)
@@ -122,13 +137,21 @@ module _ (P : Entry → Type 0) where
   wanted true us p = p
   wanted false us p = tt
 
-  based-adds : (c : Command) (before j : Journal) → Adds j (basedBy c before j)
+  pub based-adds : (c : Command) (before j : Journal) → Adds j (basedBy c before j)
   based-adds c before j = within-write-e2 (λ k. Adds j k) (λ w. basedWithin w before j) j c (λ w is. go w) (adds-none j j refl)
     where
       go : (w : Writing) → Adds j (basedWithin w before j)
       go addressing = either (Adds j) (leb 2 (length (before .held))) _ j (adds-none j (based (addressHeld before) j) refl) (adds-none j j refl)
       go (ready a) = adds-none j j refl
       go (programming a bs left) = adds-none j j refl
+
+  -- A write to Command.
+  pub command-adds : ((mode lsb msb : ℕ) → P (e.calcCRC mode lsb msb)) → (v : ℕ) (m : Machine) (j : Journal) → Adds j (enterCommand v m j)
+  command-adds began v m j =
+      let x = e.calcCRC (registerAt m 0x22) (registerAt m 0x23) (registerAt m 0x24) in
+      let none = adds-none j j refl in
+      either (Adds j) (programs (m .command)) j (begun (commandWritten v m .command) m j) none
+      (either (Adds j) (eqb (codeOf (commandWritten v m .command)) 0x12) (entered x j) j (adds-one j (entered x j) x refl (began (registerAt m 0x22) (registerAt m 0x23) (registerAt m 0x24))) none)
 
   module _ (moved : Moved) where
     offer-adds : (b : ℕ) (j : Journal) → Adds j (offer b j)
@@ -167,15 +190,10 @@ module _ (P : Entry → Type 0) where
         adds-both (adds-both (uses-add (usesOf c (length (j .held))) (uses-of c (length (j .held)) k m) j) (based-adds c j _)) (offers-add (offersOf c eeprom j) _)
 
     -- A write to a register.
-    begun-adds : (c : Command) (m : Machine) (j : Journal) → Adds j (begun c m j)
-    begun-adds c m j =
-        let x = e.calcCRC (registerAt m 0x22) (registerAt m 0x23) (registerAt m 0x24) in
-        either (Adds j) (eqb (codeOf c) 0x12) (entered x j) j (adds-one j (entered x j) x refl (moved .began (registerAt m 0x22) (registerAt m 0x23) (registerAt m 0x24))) (adds-none j j refl)
-
     pub register-adds : (r v : ℕ) (m : Machine) (j : Journal) → Adds j (enterRegister r v m j)
     register-adds r v m j =
         let none = adds-none j j refl in
         either (Adds j) (eqb (r % 8) 0) j _ none
-        (either (Adds j) (eqb r 0x01) (enterCommand v m j) _ (either (Adds j) (programs (m .command)) j _ none (begun-adds (commandWritten v m .command) m j))
+        (either (Adds j) (eqb r 0x01) (enterCommand v m j) _ (command-adds (moved .began) v m j)
         (either (Adds j) (eqb r 0x02) (offer v j) _ (offer-adds v j)
         (either (Adds j) (eqb r 0x09) _ j (either (Adds j) (bitSet v 0) _ j (all-adds (e.left e.flush) e.flushed (moved .to-flush) (moved .flushed) j) none) none)))

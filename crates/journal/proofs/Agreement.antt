@@ -13,8 +13,8 @@ use lib.Seq.{drop-nil, length-take-le}
 use borrow.Author.Tests.{ltb-true, ltb-false}
 use Rattle.crc.specs.Checksum.{afterBytes, absorbedAll}
 use Rattle.crc.proofs.Laws.{in-parts}
-use Rattle.machine.specs.State.{Machine, Checksum, Command, Writing, Idle, WriteE2, ReadE2, LoadConfig, LoadKeyE2, LoadKey, CalcCRC, Transmit, Receive, TransceiveSending, TransceiveReceiving, addressing, ready, programming}
-use Rattle.machine.specs.Fifo.{offered, offeredAll, restOf}
+use Rattle.machine.specs.State.{Machine, Checksum, Command, Writing, Idle, WriteE2, ReadE2, LoadConfig, LoadKeyE2, LoadKey, CalcCRC, Transmit, Receive, TransceiveSending, TransceiveReceiving, addressing, ready, programming, withHeld}
+use Rattle.machine.specs.Fifo.{oneLost, offered, offeredAll, restOf}
 use Rattle.machine.specs.Memory.{storedFrom}
 use Rattle.machine.proofs.Cases.{by-cond}
 use Rattle.journal.specs.Entries as e
@@ -53,6 +53,21 @@ KeyClear Transmit f = Unit {0}
 KeyClear Receive f = Unit {0}
 KeyClear TransceiveSending f = Unit {0}
 KeyClear TransceiveReceiving f = Unit {0}
+
+-- What holds of the machine with the journal's held list holds of a machine that has this list.
+pub with-held : (P : Machine → Type 0) (m : Machine) (j : Journal) → j .held ≡ m .held → P (withHeld (j .held) m) → P m
+with-held P m j same p = subst (λ (h : List ℕ). P (withHeld h m)) same p
+
+-- An offered byte joins both lists or none.
+pub same-offered : (b : ℕ) (m : Machine) (j : Journal) → j .held ≡ m .held → offer b j .held ≡ offered b m .held
+unfolding offer offered
+same-offered b m j same = with-held (λ x. offer b j .held ≡ offered b x .held) m j same (go (ltb (length (j .held)) 64))
+  where
+    go : (t : Bool) →
+        (cond {A = Journal} t (record { entries = j .entries ++ e.takenIn b ∷ []; held = j .held ++ b ∷ []; base = j .base; count = j .count }) (entered (e.turnedAway b) j)) .held
+        ≡ (cond t (withHeld (j .held ++ b ∷ []) m) (oneLost (withHeld (j .held) m))) .held
+    go true = refl
+    go false = refl
 
 module _ (image : List ℕ) where
   abbrev pub memoryOf : Journal → Memory
@@ -94,16 +109,6 @@ module _ (image : List ℕ) where
         whole = a .whole;
       }
 
-  offer-held : (b : ℕ) (j : Journal) → offer b j .held ≡ cond (ltb (length (j .held)) 64) (j .held ++ b ∷ []) (j .held)
-  unfolding offer
-  offer-held b j = go (ltb (length (j .held)) 64)
-    where
-      go : (t : Bool) → (cond {A = Journal} t (record { entries = j .entries ++ e.takenIn b ∷ []; held = j .held ++ b ∷ []; base = j .base; count = j .count }) (entered (e.turnedAway b) j)) .held
-          ≡ cond t (j .held ++ b ∷ []) (j .held)
-      go true = refl
-      go false = refl
-
-  -- An offered byte joins both lists or none.
   pub offered-agrees : (b : ℕ) (m : Machine) (j : Journal) → AgreesWith m j → AgreesWith (offered b m) (offer b j)
   unfolding offered
   offered-agrees b m j a =
@@ -111,8 +116,8 @@ module _ (image : List ℕ) where
       (λ is. quietly a (quietly-offer b j) (joined true is) refl (a .same-place) (a .key-clear))
       (λ is. quietly a (quietly-offer b j) (joined false is) refl (a .same-place) (a .key-clear))
     where
-      joined : (t : Bool) → ltb (length (m .held)) 64 ≡ t → offer b j .held ≡ cond t (m .held ++ b ∷ []) (m .held)
-      joined t is = offer-held b j ∙ ap (λ (h : List ℕ). cond (ltb (length h) 64) (h ++ b ∷ []) h) (a .same-held) ∙ ap (λ (z : Bool). cond z (m .held ++ b ∷ []) (m .held)) is
+      joined : (t : Bool) → ltb (length (m .held)) 64 ≡ t → offer b j .held ≡ (cond t (withHeld (m .held ++ b ∷ []) m) (oneLost m)) .held
+      joined t is = same-offered b m j (a .same-held) ∙ ap (λ (z : Bool). (cond z (withHeld (m .held ++ b ∷ []) m) (oneLost m)) .held) is
 
   pub offers-agree : (bs : List ℕ) (m : Machine) (j : Journal) → AgreesWith m j → AgreesWith (offeredAll bs m) (offerAll bs j)
   unfolding offeredAll offerAll

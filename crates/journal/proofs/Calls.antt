@@ -12,7 +12,7 @@ use Rattle.crc.specs.Checksum.{presetOf, afterBytes}
 use Rattle.machine.specs.State.{Machine, Checksum, Command, Idle, WriteE2, ReadE2, LoadConfig, LoadKeyE2, LoadKey, CalcCRC, Transmit, Receive, TransceiveSending, TransceiveReceiving, addressing, ready, programming, withCommand, withHeld, withEnables, withRequests, withControl, withBitFraming, withRegisters, withRxLastBits}
 use Rattle.machine.specs.Fifo.{registerAt, offered, offeredAll, flushed, restOf, alerted}
 use Rattle.machine.specs.Timer.{timerStarted, timerStopped, timerClock}
-use Rattle.machine.specs.Commands.{programs, clearedErrors, commandStarted, commandWritten, ended, settled, raisedTx, raisedRx}
+use Rattle.machine.specs.Commands.{programs, withKeyErr, clearedErrors, checksumStarted, commandStarted, commandWritten, ended, settled, raisedTx, raisedRx}
 use Rattle.machine.specs.Registers.{pageWritten, controlWritten, interruptsWritten, registerWritten}
 use Rattle.machine.specs.Events.{batchStored, programmed, commandClocked, clock, clocks, started}
 use Rattle.machine.proofs.Cases.{either, while-programming}
@@ -31,6 +31,34 @@ use Rattle.machine.proofs.Clock.{timer-any, timer-command}
 -- A command that does not program has no latched bytes.
 pub idle-latch : (c : Command) → programs c ≡ false → waiting c ≡ []
 idle-latch c p = while-programming (λ (bs : List Byte). bs ≡ []) (λ a bs left. batch a bs) [] c (λ a bs left is. absurd (true≢false (sym (ap programs is) ∙ p))) refl
+
+-- What holds of a machine under any command that does not program, with KeyErr as it is or clear, as CalcCRC begins, and as a command ends, holds after
+-- the start of any code.
+pub code-any : (P : Machine → Type 0) (code : ℕ) (m : Machine) → ((c : Command) → programs c ≡ false → P (withCommand c m)) → ((c : Command) → programs c ≡ false → P (withCommand c (withKeyErr false m))) →
+    P (withCommand CalcCRC (checksumStarted m)) → P (ended m) → P (commandStarted code m)
+code-any P code m plain clears begins over =
+    either P (eqb code 0x00) _ _ (plain Idle refl)
+    (either P (eqb code 0x01) _ _ (plain (WriteE2 addressing) refl)
+    (either P (eqb code 0x03) _ _ (plain ReadE2 refl)
+    (either P (eqb code 0x07) _ _ (plain LoadConfig refl)
+    (either P (eqb code 0x0B) _ _ (clears LoadKeyE2 refl)
+    (either P (eqb code 0x12) _ _ begins
+    (either P (eqb code 0x16) _ _ (plain Receive refl)
+    (either P (eqb code 0x19) _ _ (clears LoadKey refl)
+    (either P (eqb code 0x1A) _ _ (plain Transmit refl)
+    (either P (eqb code 0x1E) _ _ (plain TransceiveSending refl)
+    over)))))))))
+
+-- Whatever a frame does to the timer.
+pub tx-either : (P : Machine → Type 0) (x : Machine) → P x → P (timerStarted x) → P (timerStarted (timerStarted x)) → P (txEnded (txBegun x))
+tx-either P x p q r = begins (TStartTxBegin x)
+  where
+    ends : (y : Machine) → P y → P (timerStarted y) → P (txEnded y)
+    ends y u v = either P (TStartTxEnd y) (timerStarted y) y v u
+
+    begins : (t : Bool) → P (txEnded (cond t (timerStarted x) x))
+    begins true = ends (timerStarted x) q r
+    begins false = ends x p q
 
 rest-drop : (h : List ℕ) → drop 1 h ≡ restOf h
 rest-drop [] = refl
@@ -165,14 +193,17 @@ module _ (image : List ℕ) where
   timer-agrees m j a = timer-any (λ n. AgreesWith image n j) m a (λ t. a) (λ t. a)
 
   -- A programming ends.
+  pub stored-agrees : (s left : ℕ) (bs : List ℕ) (m : Machine) (j : Journal) → m .command ≡ WriteE2 (programming s bs left) → AgreesWith image m j → AgreesWith image (batchStored s bs m) j
+  stored-agrees s left bs m j is a =
+      programmed-agrees image (m .held) s left bs (m .checksum) (m .eeprom) (m .status .errors .keyErr) j
+      (subst (λ (c : Command). Agrees image (m .held) c (m .checksum) (m .eeprom) (m .status .errors .keyErr) j) is a)
+
   end-agrees : (s left : ℕ) (bs : List ℕ) (m : Machine) (j : Journal) → m .command ≡ WriteE2 (programming s bs left) → AgreesWith image m j → AgreesWith image (programmed s bs m) (enterEnd s bs m j)
   end-agrees s left bs m j is a =
       subst (λ (h : List ℕ). AgreesWith image (programmed s bs m) (cond (eqb (length h) 0) j (enterSettled (batchStored s bs m) j))) (sym (a .same-held)) (go (eqb (length (m .held)) 0))
     where
       stored : AgreesWith image (batchStored s bs m) j
-      stored =
-          programmed-agrees image (m .held) s left bs (m .checksum) (m .eeprom) (m .status .errors .keyErr) j
-          (subst (λ (c : Command). Agrees image (m .held) c (m .checksum) (m .eeprom) (m .status .errors .keyErr) j) is a)
+      stored = stored-agrees s left bs m j is a
 
       go : (t : Bool) → AgreesWith image (cond t (raisedTx (batchStored s bs m)) (settled (batchStored s bs m))) (cond t j (enterSettled (batchStored s bs m) j))
       go true = stored
@@ -224,21 +255,6 @@ module _ (image : List ℕ) where
       (quietly-all (e.left e.frame) e.tookFrame (record { none-in = λ b. refl; one-out = λ b. refl; in-turn = λ n b i. i }) (record { none-in = refl; none-out = refl; in-turn = λ n. tt })
       (λ b. record { no-checksum = λ l. refl; no-memory = λ r. refl }) (record { no-checksum = λ l. refl; no-memory = λ r. refl }) j)
       refl wait place clear
-
-  -- Whatever the frame does to the timer.
-  tx-either : (P : Machine → Type 0) (x : Machine) → P x → P (timerStarted x) → P (timerStarted (timerStarted x)) → P (txEnded (txBegun x))
-  tx-either P x p q r = begins (TStartTxBegin x)
-    where
-      ends : (y : Machine) → P y → P (timerStarted y) → P (txEnded y)
-      ends y u v = go (TStartTxEnd y)
-        where
-          go : (t : Bool) → P (cond t (timerStarted y) y)
-          go true = v
-          go false = u
-
-      begins : (t : Bool) → P (txEnded (cond t (timerStarted x) x))
-      begins true = ends (timerStarted x) q r
-      begins false = ends x p q
 
   sent-as : (c : Command) (m : Machine) (j : Journal) → m .command ≡ c → sending c ≡ true → AgreesWith image m j → AgreesWith image (afterSending c (raisedTx (txEnded (txBegun (withHeld [] m))))) (leaveAll (e.left e.frame) e.tookFrame j)
   sent-as Transmit m j is s a =

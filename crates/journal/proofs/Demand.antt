@@ -24,7 +24,7 @@ use Rattle.journal.specs.Entries.{collect, keyBytes}
 use Rattle.journal.specs.Journal.{Journal, enterAccepted, enter, leaveFrom, leave, Both}
 use Rattle.journal.specs.Demand.{run, checksumShown, ReadAnswers, NextCall, Demand3}
 use Rattle.journal.proofs.Agreement.{AgreesWith, PlaceIs}
-use Rattle.journal.proofs.Run.{run-agrees, conserved}
+use Rattle.journal.proofs.Run.{run-agrees, run-tells, conserved}
 use Rattle.journal.proofs.Keys.{NoKey, moved, Judged, nothing, twelve, KeyCall, key-none, clocks-keyless, written-keys}
 use Rattle.journal.proofs.Adding.{adds-none, leave-adds, all-adds, offers-add}
 use Rattle.journal.proofs.Programming.{pending, finishes}
@@ -154,6 +154,6 @@ module _ (image : List ℕ) where
 pub demand-3 : Demand3
 demand-3 =
     record {
-      conserved = λ image size calls. conserved image (run image calls) (run-agrees image size calls);
+      conserved = λ image size calls. conserved image (run image calls) (run-agrees image size calls) (run-tells image size calls);
       next-call = λ image size calls. next-call image (run image calls) (run-agrees image size calls);
     }

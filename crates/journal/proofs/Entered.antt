@@ -25,9 +25,9 @@ use Rattle.journal.specs.Demand.{batch, waiting}
 use Rattle.journal.specs.Account.{memoryBytes, startImages}
 use Rattle.journal.proofs.Folds.{collect-append}
 use Rattle.journal.proofs.Adding.{Each, Adds, none-of, adds-none, Moved, step-adds, register-adds}
-use Rattle.journal.proofs.Agreement.{Agrees, AgreesWith, placed, memories, programmed-agrees}
+use Rattle.journal.proofs.Agreement.{Agrees, AgreesWith, placed, memories}
 use Rattle.journal.proofs.Steps.{take-least, step-agrees}
-use Rattle.journal.proofs.Calls.{idle-latch, register-agrees}
+use Rattle.journal.proofs.Calls.{idle-latch, code-any, register-agrees, stored-agrees}
 
 -- Entries of no host read, of no take and of no start.
 pub record Inside (xs : List Entry) : Type 0 where
@@ -220,18 +220,7 @@ module _ (image : List ℕ) where
         go true is = refl
         go false is =
             let none = sym (idle-latch (m .command) is) in
-            let code = v % 64 in
-            either Waits (eqb code 0x00) _ _ none
-            (either Waits (eqb code 0x01) _ _ none
-            (either Waits (eqb code 0x03) _ _ none
-            (either Waits (eqb code 0x07) _ _ none
-            (either Waits (eqb code 0x0B) _ _ none
-            (either Waits (eqb code 0x12) _ _ none
-            (either Waits (eqb code 0x16) _ _ none
-            (either Waits (eqb code 0x19) _ _ none
-            (either Waits (eqb code 0x1A) _ _ none
-            (either Waits (eqb code 0x1E) _ _ none
-            none)))))))))
+            code-any Waits (v % 64) (clearedErrors m) (λ c p. idle-latch c p ∙ none) (λ c p. idle-latch c p ∙ none) none none
 
     control-waits : (v : ℕ) → Waits (controlWritten v m)
     control-waits v = go (bitSet v 0) (bitSet v 2) (bitSet v 1)
@@ -278,9 +267,7 @@ module _ (image : List ℕ) where
       subst (λ (h : List ℕ). Enters Idle j (programmed s bs m .command) (cond (eqb (length h) 0) j (enterSettled (batchStored s bs m) j))) (sym (a .same-held)) (go (eqb (length (m .held)) 0))
     where
       stored : AgreesWith image (batchStored s bs m) j
-      stored =
-          programmed-agrees image (m .held) s left bs (m .checksum) (m .eeprom) (m .status .errors .keyErr) j
-          (subst (λ (c : Command). Agrees image (m .held) c (m .checksum) (m .eeprom) (m .status .errors .keyErr) j) is a)
+      stored = stored-agrees image s left bs m j is a
 
       go : (t : Bool) → Enters Idle j ((cond t (raisedTx (batchStored s bs m)) (settled (batchStored s bs m))) .command) (cond t j (enterSettled (batchStored s bs m) j))
       go true = enters-plain (adds-none Apart j j refl) refl

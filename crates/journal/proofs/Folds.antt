@@ -3,7 +3,7 @@
 use mathlib.Core.Path.{_≡_, refl, sym, ap, _∙_, subst}
 use mathlib.Core.List.{List, [], _∷_, _++_, append-assoc}
 use Prim.Native.Nat.{ℕ}
-use Rattle.journal.specs.Entries.{Entry, collect, turn, countAfter, InTurn, Latest, noted, latestFrom, Memory, remembered, memoryFrom}
+use Rattle.journal.specs.Entries.{Entry, collect, turn, countAfter, InTurn, Latest, noted, latestFrom, Memory, remembered, memoryFrom, awayAfter, awayFrom}
 
 pub collect-append : {X : Type 0} (f : Entry → List X) (xs ys : List Entry) → collect f (xs ++ ys) ≡ collect f xs ++ collect f ys
 unfolding collect
@@ -34,3 +34,8 @@ pub memory-append : (r : Memory) (xs ys : List Entry) → memoryFrom r (xs ++ ys
 unfolding memoryFrom
 memory-append r [] ys = refl
 memory-append r (x ∷ xs) ys = memory-append (remembered r x) xs ys
+
+pub away-append : (n : ℕ) (xs ys : List Entry) → awayFrom n (xs ++ ys) ≡ awayFrom (awayFrom n xs) ys
+unfolding awayFrom
+away-append n [] ys = refl
+away-append n (x ∷ xs) ys = away-append (awayAfter n x) xs ys

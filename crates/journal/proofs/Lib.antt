@@ -4,6 +4,7 @@ pub mod Moves
 pub mod Agreement
 pub mod Steps
 pub mod Calls
+pub mod Lost
 pub mod Run
 pub mod Keys
 pub mod Programming

@@ -1,4 +1,4 @@
--- Every call, refused or not, keeps machine and journal in agreement; so does every list of calls.
+-- Every call, refused or not, keeps machine and journal in agreement, and the machine's number of lost bytes; so does every list of calls.
 -- Assumes nothing.
 use mathlib.Core.Path.{_≡_, refl, sym, ap, _∙_}
 use mathlib.Core.Bool.{Bool, true, false, cond, not, _||_}
@@ -16,12 +16,13 @@ use Rattle.machine.specs.Refusals.{Call, start, hostRead, hostWrite, advance, t
 use Rattle.machine.proofs.Performing.{passed-test, not-false}
 use Rattle.machine.specs.Events.{accepted, perform, refused, bufferOf, started, written, afterRead, advanced, taken, delivered}
 use Rattle.machine.specs.Fifo.{alerted}
-use Rattle.journal.specs.Entries.{bytesOut, latestFrom, memoryFrom, collect}
+use Rattle.journal.specs.Entries.{bytesOut, latestFrom, memoryFrom, awayFrom, collect}
 use Rattle.journal.specs.Journal.{Journal, empty, enterAccepted, enter, Both, called, after}
 use Rattle.journal.specs.Demand.{run, storedBytes, Conserved}
 use Rattle.journal.proofs.Moves.{moves-none}
 use Rattle.journal.proofs.Agreement.{AgreesWith}
 use Rattle.journal.proofs.Calls.{written-agrees, clocks-agree, read-agrees, sent-agrees, received-agrees, started-agrees}
+use Rattle.journal.proofs.Lost.{Shown, Tells, tells-on, call-loses}
 
 -- A test that refuses did not hold.
 pub or-first : (s t : Bool) → (s || t) ≡ false → s ≡ false
@@ -52,11 +53,6 @@ module _ (image : List ℕ) where
       go true is = accepted-agrees c m j (eqb-true (refusal m c) 0 is) a
       go false is = a
 
-  calls-agree : (calls : List Call) (s : Both) → AgreesWith image (s .machine) (s .journal) → AgreesWith image (after s calls .machine) (after s calls .journal)
-  unfolding after
-  calls-agree [] s a = a
-  calls-agree (c ∷ cs) s a = calls-agree cs (called c s) (call-agrees c (s .machine) (s .journal) a)
-
   -- After a start the journal is empty.
   start-agrees : length image ≡ 512 → AgreesWith image (started image) empty
   unfolding started latestFrom memoryFrom storedBytes afterBytes
@@ -71,15 +67,34 @@ module _ (image : List ℕ) where
         whole = size;
       }
 
-  pub run-agrees : length image ≡ 512 → (calls : List Call) → AgreesWith image (run image calls .machine) (run image calls .journal)
-  run-agrees size calls = calls-agree calls (record { machine = started image; journal = empty }) (start-agrees size)
+  -- Machine and journal agree, and the machine shows how many bytes were turned away since the last flush or start.
+  abbrev Kept : Both → Type 0
+  Kept s = AgreesWith image (s .machine) (s .journal) × Tells (s .machine) (awayFrom 0 (s .journal .entries))
 
-  pub conserved : (s : Both) → AgreesWith image (s .machine) (s .journal) → Conserved image s
-  conserved s a =
+  -- This is so after any calls from where it is so, and so after any calls from a start.
+  calls-kept : (calls : List Call) (s : Both) → Kept s → Kept (after s calls)
+  unfolding after
+  calls-kept [] s kept = kept
+  calls-kept (c ∷ cs) s (a, t) = calls-kept cs (called c s) (call-agrees c (s .machine) (s .journal) a, tells-on (call-loses image c (s .machine) (s .journal) a) t)
+
+  run-kept : length image ≡ 512 → (calls : List Call) → Kept (run image calls)
+  unfolding started awayFrom
+  run-kept size calls = calls-kept calls (record { machine = started image; journal = empty }) (start-agrees size, refl)
+
+  pub run-agrees : length image ≡ 512 → (calls : List Call) → AgreesWith image (run image calls .machine) (run image calls .journal)
+  run-agrees size calls = run-kept size calls .0
+
+  pub run-tells : length image ≡ 512 → (calls : List Call) → Tells (run image calls .machine) (awayFrom 0 (run image calls .journal .entries))
+  run-tells size calls = run-kept size calls .1
+
+  pub conserved : (s : Both) → AgreesWith image (s .machine) (s .journal) → Tells (s .machine) (awayFrom 0 (s .journal .entries)) → Conserved image s
+  conserved s a t =
       record {
         same-held = a .same-held;
         taken-in-when-under-64 = a .moved .turns;
         in-order = a .moved .order ∙ ap (λ (h : List ℕ). collect bytesOut (s .journal .entries) ++ h) (a .same-held);
+        lost-sum = ap (λ (z : Shown). z .sum) t;
+        overflow-shown = ap (λ (z : Shown). z .overflow) t;
         checksum-shown = sym (ap (λ (k : Checksum). resultOf (k .mode) (k .register)) (a .same-checksum));
         memory-stored = a .same-memory;
       }

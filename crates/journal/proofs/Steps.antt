@@ -11,7 +11,7 @@ use lib.Seq.{take-all}
 use borrow.Author.Tests.{ltb-true, ltb-false, leb-true, leb-false, le-leb, lt-leb}
 use Rattle.key.specs.Key.{emptyKey}
 use Rattle.machine.specs.State.{Machine, Checksum, Command, Writing, Idle, WriteE2, ReadE2, LoadConfig, LoadKeyE2, LoadKey, CalcCRC, Transmit, Receive, TransceiveSending, TransceiveReceiving, addressing, ready, programming, withCommand, withHeld, withRegisters, withKey}
-use Rattle.machine.specs.Fifo.{offered, offeredAll, withFifoOvfl}
+use Rattle.machine.specs.Fifo.{oneLost, offered, offeredAll}
 use Rattle.machine.specs.Memory.{addressOf, bytesFrom, roomInBlock, programmingClocks, overRegisters}
 use Rattle.machine.specs.Commands.{enough, argument, taken, ended, latched, readable, readBytes, readFrom, withAccessErr, configuredFrom, keyFrom, keyJudged, withKeyErr, checksumTaken, steppedAs, stepped, settled}
 use Rattle.journal.specs.Journal.{Journal, Use, address, number, key, checksum, memory, leaveAllAs, usesOf, based, basedBy, addressHeld, offersOf, offerAll, enterStep, enterSettled}
@@ -46,7 +46,7 @@ unfolding offeredAll offered
 offered-idle [] m = refl
 offered-idle (b ∷ bs) m = ap (offeredAll bs) (go (ltb (length (m .held)) 64)) ∙ offered-idle bs (offered b m)
   where
-    go : (t : Bool) → cond t (withHeld (m .held ++ b ∷ []) (withCommand Idle m)) (withFifoOvfl true (withCommand Idle m)) ≡ withCommand Idle (cond t (withHeld (m .held ++ b ∷ []) m) (withFifoOvfl true m))
+    go : (t : Bool) → cond t (withHeld (m .held ++ b ∷ []) (withCommand Idle m)) (oneLost (withCommand Idle m)) ≡ withCommand Idle (cond t (withHeld (m .held ++ b ∷ []) m) (oneLost m))
     go true = refl
     go false = refl
 

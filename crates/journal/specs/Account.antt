@@ -3,13 +3,14 @@
 -- Assumes nothing.
 use Prim.Native.Nat.{ℕ, suc, _/_, _%_, _<_}
 use mathlib.Core.Path.{_≡_}
+use mathlib.Core.Bool.{Bool, true, false}
 use mathlib.Core.List.{List, [], _∷_, _++_}
 use lib.ListN.{length, take, drop, getD}
 use Rattle.machine.specs.State.{Machine}
-use Rattle.machine.specs.Refusals.{Call, refusal}
-use Rattle.machine.specs.Events.{Answer, byte, perform}
+use Rattle.machine.specs.Refusals.{Call, start, hostRead, hostWrite, advance, takeFrame, deliver, refusal}
+use Rattle.machine.specs.Events.{Answer, byte, lost, perform}
 use Rattle.journal.specs.Entries as e
-use Rattle.journal.specs.Entries.{Entry, ofByte, bytesTo, keyBytes, collect, Byte}
+use Rattle.journal.specs.Entries.{Entry, ofByte, bytesTo, bytesAway, keyBytes, collect, Byte}
 use Rattle.journal.specs.Journal.{Both, called}
 use Rattle.journal.specs.Demand.{run, waiting, storedBytes, checksumShown, ReadOf, KeyJudged}
 
@@ -30,6 +31,15 @@ startImages e.tookFrame = []
 startImages e.flushed = []
 startImages (e.started image) = image ∷ []
 startImages (e.calcCRC mode lsb msb) = []
+
+-- A host write or a delivery: only these offer bytes.
+abbrev pub offers : Call → Bool
+offers (start image) = false
+offers (hostRead address) = false
+offers (hostWrite address v) = true
+offers (advance clocks) = false
+offers (takeFrame buffer) = false
+offers (deliver bytes parities lastBits) = true
 
 -- Each of these bytes is at its address.
 unfoldable pub AtAddresses : List ℕ → List Byte → Type 0
@@ -52,6 +62,9 @@ pub record AccountedBy (xs : List Entry) (code : Answer → ℕ) (s : Both) (c :
   pub appended : called c s .journal .entries ≡ s .journal .entries ++ xs
   -- by a refused call none are added
   pub refused-adds-nothing : (n : ℕ) → refusal (s .machine) c ≡ suc n → xs ≡ []
+  -- a host write or delivery that is not refused answers how many bytes were turned away in it, and in no other call is one
+  pub away-answer : offers c ≡ true → refusal (s .machine) c ≡ 0 → answer ≡ code (lost (length (collect bytesAway xs)))
+  pub none-away : offers c ≡ false → collect bytesAway xs ≡ []
   -- a byte that left to the host is the one byte that did, and the answer
   pub to-host : (b : ℕ) (bs : List ℕ) → collect (bytesTo e.host) xs ≡ b ∷ bs → (bs ≡ []) × (answer ≡ code (byte b))
   -- a read of FIFOData by which none left answers 0

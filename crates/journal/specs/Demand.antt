@@ -1,10 +1,11 @@
 -- Demand 3 (manual 12.4) over the machine's definition: what holds after every list of calls from a start that succeeds. Each of its clauses has a
 -- field of its own.
 -- Assumes nothing.
-use Prim.Native.Nat.{ℕ, suc, _+_, _-_, _/_, _%_, _<_, _≤_}
+use Prim.Native.Nat.{ℕ, suc, _+_, _-_, _/_, _%_, _<_, _≤_, min}
 use mathlib.Core.Path.{_≡_}
 use mathlib.Core.Bool.{not}
 use mathlib.Core.List.{List, [], _∷_, _++_}
+use lib.Dec.{ltb}
 use lib.ListN.{length, take, getD, set}
 use Rattle.crc.specs.Checksum.{absorbedAll, resultOf}
 use Rattle.key.specs.Key.{formatHolds, judgedKey}
@@ -14,7 +15,7 @@ use Rattle.machine.specs.Registers.{mapped, crcResult}
 use Rattle.machine.specs.Refusals.{Call, hostRead, advance, takeFrame, refusal}
 use Rattle.machine.specs.Events.{started, perform, byte}
 use Rattle.journal.specs.Entries as e
-use Rattle.journal.specs.Entries.{Entry, bytesIn, bytesOut, collect, InTurn, Latest, noChecksum, latestFrom, Byte, Memory, memoryFrom, keyBytes}
+use Rattle.journal.specs.Entries.{Entry, bytesIn, bytesOut, collect, InTurn, Latest, noChecksum, latestFrom, Byte, Memory, memoryFrom, keyBytes, awayFrom}
 use Rattle.journal.specs.Journal.{Journal, empty, enter, Both, called, after}
 
 -- The machine and the journal after a start from an image and a list of calls.
@@ -57,6 +58,9 @@ pub record Conserved (image : List ℕ) (s : Both) : Type 0 where
   pub taken-in-when-under-64 : InTurn 0 (s .journal .entries)
   -- the bytes that left, in their order, and then those held are the bytes that joined, in theirs
   pub in-order : collect bytesIn (s .journal .entries) ≡ collect bytesOut (s .journal .entries) ++ s .machine .held
+  -- the sum of lost bytes has every byte turned away since the last flush or start, up to 65,535; FIFOOvfl shows that there are some
+  pub lost-sum : s .machine .lostSum ≡ min 65_535 (awayFrom 0 (s .journal .entries))
+  pub overflow-shown : s .machine .status .errors .fifoOvfl ≡ ltb 0 (awayFrom 0 (s .journal .entries))
   -- CRCResultLSB and CRCResultMSB have that checksum
   pub checksum-shown : crcResult (s .machine) ≡ checksumShown (s .journal)
   -- EEPROM is the last start's image with the memory bytes stored whose programming has ended

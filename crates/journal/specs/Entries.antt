@@ -145,3 +145,29 @@ remembered r (calcCRC mode lsb msb) = r
 unfoldable pub memoryFrom : Memory → List Entry → Memory
 memoryFrom r [] = r
 memoryFrom r (e ∷ es) = memoryFrom (remembered r e) es
+
+-- The byte that an entry turns away, where there is one.
+abbrev pub bytesAway : Entry → List ℕ
+bytesAway (takenIn b) = []
+bytesAway (turnedAway b) = b ∷ []
+bytesAway (left to b) = []
+bytesAway (toMemory a b) = []
+bytesAway tookFrame = []
+bytesAway flushed = []
+bytesAway (started image) = []
+bytesAway (calcCRC mode lsb msb) = []
+
+-- How many bytes have been turned away since the last flush or start, after entries that come behind so many.
+abbrev pub awayAfter : ℕ → Entry → ℕ
+awayAfter n (takenIn b) = n
+awayAfter n (turnedAway b) = n + 1
+awayAfter n (left to b) = n
+awayAfter n (toMemory a b) = n
+awayAfter n tookFrame = n
+awayAfter n flushed = 0
+awayAfter n (started image) = 0
+awayAfter n (calcCRC mode lsb msb) = n
+
+unfoldable pub awayFrom : ℕ → List Entry → ℕ
+awayFrom n [] = n
+awayFrom n (e ∷ es) = awayFrom (awayAfter n e) es

@@ -1,3 +1,4 @@
 pub mod Kept
 pub mod SingleClock
 pub mod Editions
+pub mod LostSum

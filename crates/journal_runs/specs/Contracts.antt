@@ -1,5 +1,6 @@
 -- The contracts of the twelve functions that a run calls: the six entry points of the crate entry_in_place, on a chip lent, and the six functions of
--- the crate entry_by_value. Each asks nothing of its caller and promises the events' relation, of its own call. What is written here of a function is held to
+-- the crate entry_by_value. Each asks nothing of its caller and promises the events' relation, of its own call. Behind them stand those of the call for the sum of
+-- lost bytes, which is no event, in its two forms. What is written here of a function is held to
 -- its own contract, generated from its source, by an equation of the whole: a contract that promises less, asks something, or has another call in it
 -- is refused at that function's name.
 -- Assumes nothing.
@@ -19,18 +20,21 @@ use denote.Triple.Clauses.{Ended, AtExit}
 use denote.Triple.Spec.{Spec, exits}
 use Rattle.machine.specs.Refusals.{start, hostRead, hostWrite, advance, takeFrame, deliver}
 use Rattle.state.specs.Meets.{Meets}
+use Rattle.state.specs.LostSum.{lostSumOf, MeetsSum}
 use Rattle.entry_in_place.proofs.mfrc531_start as mfrc531-start
 use Rattle.entry_in_place.proofs.mfrc531_read as mfrc531-read
 use Rattle.entry_in_place.proofs.mfrc531_write as mfrc531-write
 use Rattle.entry_in_place.proofs.mfrc531_advance as mfrc531-advance
 use Rattle.entry_in_place.proofs.mfrc531_take as mfrc531-take
 use Rattle.entry_in_place.proofs.mfrc531_deliver as mfrc531-deliver
+use Rattle.entry_in_place.proofs.mfrc531_lost_sum as mfrc531-lost-sum
 use Rattle.entry_by_value.proofs.start as by-value-start
 use Rattle.entry_by_value.proofs.host_read as by-value-host-read
 use Rattle.entry_by_value.proofs.host_write as by-value-host-write
 use Rattle.entry_by_value.proofs.advance as by-value-advance
 use Rattle.entry_by_value.proofs.take as by-value-take
 use Rattle.entry_by_value.proofs.deliver as by-value-deliver
+use Rattle.entry_by_value.proofs.lost_sum as by-value-lost-sum
 
 -- A contract as it is generated, in every model of the logic: what the function is proved to meet.
 abbrev Contract : Ended → Type 2
@@ -120,5 +124,18 @@ take-by-value = record {
 abbrev pub deliver-by-value : Promised by-value-deliver.ended (λ M. by-value-deliver.spec {M = M})
 deliver-by-value = record {
   Promise = λ κs (chip, (bytes, (parities, (lastBits, _)))) r exit. Meets chip (deliver (now bytes) (now parities) lastBits) (r .chip) (r .answer) [];
+  whole-contract = λ M 𝓤 H A mem run κs args. refl;
+}
+
+-- The call for the sum of lost bytes.
+abbrev pub sum-in-place : Promised mfrc531-lost-sum.ended (λ M. mfrc531-lost-sum.spec {M = M})
+sum-in-place = record {
+  Promise = λ κs (chip, _) r (chip′, _). MeetsSum (now chip) (now chip′) r;
+  whole-contract = λ M 𝓤 H A mem run κs args. refl;
+}
+
+abbrev pub sum-by-value : Promised by-value-lost-sum.ended (λ M. by-value-lost-sum.spec {M = M})
+sum-by-value = record {
+  Promise = λ κs (chip, _) r exit. r ≡ lostSumOf chip;
   whole-contract = λ M 𝓤 H A mem run κs args. refl;
 }

@@ -1,6 +1,7 @@
 pub mod Cases
 pub mod Clock
 pub mod Editions
+pub mod Lost
 pub mod ManyClocks
 pub mod ModemStates
 pub mod Numbers

@@ -9,7 +9,7 @@ use Rattle.crc.specs.Checksum.{presetOf, absorbedAll}
 use Rattle.key.specs.Key.{formatHolds, judgedKey, emptyKey}
 use Rattle.machine.specs.State.{Machine, Command, Writing, whileProgramming, withCommand, withHeld, withErrors, withRequests, withChecksum, withKey, withRegisters, fiveFlags, sixSources}
 use Rattle.machine.specs.State.{Idle, WriteE2, ReadE2, LoadConfig, LoadKeyE2, LoadKey, CalcCRC, Transmit, Receive, TransceiveSending, TransceiveReceiving, addressing, ready, programming}
-use Rattle.machine.specs.Fifo.{registerAt, offeredAll}
+use Rattle.machine.specs.Fifo.{registerAt, offeredAll, lostOf}
 use Rattle.machine.specs.Memory.{addressOf, bytesFrom, roomInBlock, programmingClocks, overRegisters}
 
 -- Flags and requests that commands set.
@@ -159,3 +159,16 @@ stepped m = steppedAs (m .command) m
 -- All that it does at once: WriteE2 may take its address and then latch bytes, every other command needs one step.
 unfoldable pub settled : Machine → Machine
 settled m = stepped (stepped m)
+
+-- How many bytes the active command loses in one step, and in all that it does at once: of the commands only ReadE2 (03h) offers any (manual 7.3).
+abbrev pub lostAs : Command → Machine → ℕ
+lostAs c m =
+    cond (eqb (codeOf c) 0x03 && enough 3 m)
+    (lostOf (readBytes (m .eeprom) (addressOf (argument 0 m) (argument 1 m)) (argument 2 m)) (taken 3 m))
+    0
+
+unfoldable pub lostStepping : Machine → ℕ
+lostStepping m = lostAs (m .command) m
+
+unfoldable pub lostSettling : Machine → ℕ
+lostSettling m = lostStepping m + lostStepping (stepped m)

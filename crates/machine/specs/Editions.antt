@@ -59,6 +59,7 @@ pub record Alike (m n : Machine) : Type 0 where
   pub page : m .page ≡ n .page
   pub command : m .command ≡ n .command
   pub held : m .held ≡ n .held
+  pub lostSum : m .lostSum ≡ n .lostSum
   pub status : m .status ≡ n .status
   pub timer : m .timer ≡ n .timer
   pub checksum : m .checksum ≡ n .checksum

@@ -9,12 +9,12 @@ use Rattle.edition.specs.Edition.{editionOf}
 use Rattle.key.specs.Key.{emptyKey}
 use Rattle.machine.specs.State.{Machine, Command, Interrupts, Idle, WriteE2, ready, programming, whileProgramming, withCommand, withHeld, withEeprom}
 use Rattle.machine.specs.Refusals.{Call, start, hostRead, hostWrite, advance, takeFrame, deliver, refusal}
-use Rattle.machine.specs.Registers.{mapped, registerRead, registerWritten}
+use Rattle.machine.specs.Registers.{mapped, registerRead, registerWritten, lostAtRegister}
 use Rattle.machine.specs.Fifo.{restOf, alerted}
 use Rattle.machine.specs.Timer.{stoppedAt, timerClock}
 use Rattle.machine.specs.Memory.{storedFrom, overRegisters, bytesFrom}
-use Rattle.machine.specs.Commands.{raisedTx, settled}
-use Rattle.machine.specs.Frames.{frameSent, txLastBits, sent, received}
+use Rattle.machine.specs.Commands.{raisedTx, settled, lostSettling}
+use Rattle.machine.specs.Frames.{frameSent, txLastBits, sent, received, lostReceiving}
 
 abbrev pub noInterrupts : Interrupts
 noInterrupts = record { timer = false; tx = false; rx = false; idle = false; hiAlert = false; loAlert = false }
@@ -27,6 +27,7 @@ started image =
       page = 0x80;
       command = Idle;
       held = [];
+      lostSum = 0;
       status =
           record {
             enables = noInterrupts;
@@ -47,6 +48,10 @@ started image =
 -- A host write changes its register, and the active command then does what it can.
 unfoldable pub written : ℕ → ℕ → Machine → Machine
 written address v m = alerted m (settled (registerWritten (mapped (m .page) address) v m))
+
+-- How many bytes it loses (manual 3.4): the one for FIFOData, and those that ReadE2 then offers.
+unfoldable pub lostWriting : ℕ → ℕ → Machine → ℕ
+lostWriting address v m = let r = mapped (m .page) address in lostAtRegister r m + lostSettling (registerWritten r v m)
 
 -- A host read of FIFOData removes the byte that it answers; no other read changes anything.
 unfoldable pub readByte : ℕ → Machine → ℕ
@@ -96,6 +101,8 @@ delivered bytes parities lastBits m = alerted m (received bytes parities lastBit
 pub data Answer : Type 0 where
   refused : ℕ → Answer
   done : Answer
+  -- done, and how many bytes the FIFO lost in the call
+  lost : ℕ → Answer
   byte : ℕ → Answer
   -- how many bytes the frame has, and how many bits of its last byte are sent
   frame : ℕ → ℕ → Answer
@@ -118,10 +125,10 @@ bufferOf (deliver bytes parities lastBits) = []
 abbrev pub accepted : Machine → Call → Outcome
 accepted m (start image) = record { answer = done; next = started image; buffer = [] }
 accepted m (hostRead address) = record { answer = byte (readByte address m); next = afterRead address m; buffer = [] }
-accepted m (hostWrite address v) = record { answer = done; next = written address v m; buffer = [] }
+accepted m (hostWrite address v) = record { answer = lost (lostWriting address v m); next = written address v m; buffer = [] }
 accepted m (advance n) = record { answer = done; next = advanced n m; buffer = [] }
 accepted m (takeFrame buffer) = record { answer = frame (length (frameSent m)) (txLastBits m); next = taken m; buffer = bufferTaken buffer m }
-accepted m (deliver bytes parities lastBits) = record { answer = done; next = delivered bytes parities lastBits m; buffer = [] }
+accepted m (deliver bytes parities lastBits) = record { answer = lost (lostReceiving bytes lastBits m); next = delivered bytes parities lastBits m; buffer = [] }
 
 -- Any call: by a refused one nothing changes, and its answer is the refusal's number (manual 10.1).
 unfoldable pub perform : Machine → Call → Outcome

@@ -10,7 +10,7 @@ use Rattle.bits.specs.Bits.{bit, bitSet}
 use Rattle.crc.specs.Checksum.{CRC8, checksum}
 use Rattle.machine.specs.State.{Machine, Command, withCommand, withHeld, withErrors, withRxLastBits, fiveFlags}
 use Rattle.machine.specs.State.{Idle, WriteE2, ReadE2, LoadConfig, LoadKeyE2, LoadKey, CalcCRC, Transmit, Receive, TransceiveSending, TransceiveReceiving}
-use Rattle.machine.specs.Fifo.{registerAt, offeredAll}
+use Rattle.machine.specs.Fifo.{registerAt, offeredAll, lostOf}
 use Rattle.machine.specs.Timer.{TStartTxBegin, TStartTxEnd, TStopRx, timerStarted, timerStopped}
 use Rattle.machine.specs.Commands.{codeOf, raisedTx, raisedRx, ended}
 
@@ -121,3 +121,7 @@ received bytes parities lastBits m =
     (raisedRx
     (offeredAll (passed m bytes lastBits)
     (withRxLastBits lastBits (withFrameErrors (crcFails m bytes lastBits) (parityFails m bytes parities lastBits) (rxStopped m)))))
+
+-- How many of its bytes the FIFO loses; a checksum that is dropped is not offered (manual 3.4).
+unfoldable pub lostReceiving : List ℕ → ℕ → Machine → ℕ
+lostReceiving bytes lastBits m = lostOf (passed m bytes lastBits) m

@@ -18,3 +18,4 @@ pub mod Numbers
 pub mod Readings
 pub mod WaterLevels
 pub mod ModemStates
+pub mod Lost

@@ -8,7 +8,7 @@ use lib.ListN.{length, set}
 use Rattle.bits.specs.Bits.{bit, bitSet}
 use Rattle.crc.specs.Checksum.{resultOf}
 use Rattle.machine.specs.State.{Machine, Interrupts, Errors, withPage, withEnables, withRequests, withControl, withBitFraming, withRegisters, sixSources}
-use Rattle.machine.specs.Fifo.{registerAt, offered, firstOf, flushed, loAlert, hiAlert}
+use Rattle.machine.specs.Fifo.{registerAt, offered, lostAt, firstOf, flushed, loAlert, hiAlert}
 use Rattle.machine.specs.Timer.{timerStarted, timerStopped}
 use Rattle.machine.specs.Commands.{codeOf, programs, commandWritten}
 use Rattle.machine.specs.Frames.{receiving, frameWaits}
@@ -111,3 +111,7 @@ registerWritten r v m =
     (cond (eqb r 0x0F) (withBitFraming v m)
     (cond (leb 0x10 r && ltb r 0x30) (withRegisters (set (m .registers) (r - 0x10) v) m)
     m)))))))
+
+-- How many bytes the register itself loses: FIFOData is offered one.
+abbrev pub lostAtRegister : ℕ → Machine → ℕ
+lostAtRegister r m = cond (eqb r 0x02) (lostAt m) 0

@@ -101,6 +101,8 @@ pub record Machine : Type 0 where
   pub command : Command
   -- the bytes that the FIFO holds, the first to leave first
   pub held : List ℕ
+  -- how many bytes it has refused since the last flush or start; 65,535 stands for more too
+  pub lostSum : ℕ
   pub status : Status
   pub timer : Timer
   pub checksum : Checksum
@@ -115,12 +117,13 @@ pub record Machine : Type 0 where
   pub edition : Edition
 
 -- Records from their parts, in the order of their fields.
-abbrev pub machineOf : ℕ → Command → List ℕ → Status → Timer → Checksum → Key → ℕ → List ℕ → List ℕ → Edition → Machine
-machineOf page command held status timer checksum key bitFraming registers eeprom edition =
+abbrev pub machineOf : ℕ → Command → List ℕ → ℕ → Status → Timer → Checksum → Key → ℕ → List ℕ → List ℕ → Edition → Machine
+machineOf page command held lostSum status timer checksum key bitFraming registers eeprom edition =
     record {
       page = page;
       command = command;
       held = held;
+      lostSum = lostSum;
       status = status;
       timer = timer;
       checksum = checksum;
@@ -145,37 +148,40 @@ fiveFlags keyErr accessErr fifoOvfl crcErr parityErr =
 
 -- Setters of the machine's parts.
 abbrev pub withPage : ℕ → Machine → Machine
-withPage x m = machineOf x (m .command) (m .held) (m .status) (m .timer) (m .checksum) (m .key) (m .bitFraming) (m .registers) (m .eeprom) (m .edition)
+withPage x m = machineOf x (m .command) (m .held) (m .lostSum) (m .status) (m .timer) (m .checksum) (m .key) (m .bitFraming) (m .registers) (m .eeprom) (m .edition)
 
 abbrev pub withCommand : Command → Machine → Machine
-withCommand x m = machineOf (m .page) x (m .held) (m .status) (m .timer) (m .checksum) (m .key) (m .bitFraming) (m .registers) (m .eeprom) (m .edition)
+withCommand x m = machineOf (m .page) x (m .held) (m .lostSum) (m .status) (m .timer) (m .checksum) (m .key) (m .bitFraming) (m .registers) (m .eeprom) (m .edition)
 
 abbrev pub withHeld : List ℕ → Machine → Machine
-withHeld x m = machineOf (m .page) (m .command) x (m .status) (m .timer) (m .checksum) (m .key) (m .bitFraming) (m .registers) (m .eeprom) (m .edition)
+withHeld x m = machineOf (m .page) (m .command) x (m .lostSum) (m .status) (m .timer) (m .checksum) (m .key) (m .bitFraming) (m .registers) (m .eeprom) (m .edition)
+
+abbrev pub withLostSum : ℕ → Machine → Machine
+withLostSum x m = machineOf (m .page) (m .command) (m .held) x (m .status) (m .timer) (m .checksum) (m .key) (m .bitFraming) (m .registers) (m .eeprom) (m .edition)
 
 abbrev pub withStatus : Status → Machine → Machine
-withStatus x m = machineOf (m .page) (m .command) (m .held) x (m .timer) (m .checksum) (m .key) (m .bitFraming) (m .registers) (m .eeprom) (m .edition)
+withStatus x m = machineOf (m .page) (m .command) (m .held) (m .lostSum) x (m .timer) (m .checksum) (m .key) (m .bitFraming) (m .registers) (m .eeprom) (m .edition)
 
 abbrev pub withTimer : Timer → Machine → Machine
-withTimer x m = machineOf (m .page) (m .command) (m .held) (m .status) x (m .checksum) (m .key) (m .bitFraming) (m .registers) (m .eeprom) (m .edition)
+withTimer x m = machineOf (m .page) (m .command) (m .held) (m .lostSum) (m .status) x (m .checksum) (m .key) (m .bitFraming) (m .registers) (m .eeprom) (m .edition)
 
 abbrev pub withChecksum : Checksum → Machine → Machine
-withChecksum x m = machineOf (m .page) (m .command) (m .held) (m .status) (m .timer) x (m .key) (m .bitFraming) (m .registers) (m .eeprom) (m .edition)
+withChecksum x m = machineOf (m .page) (m .command) (m .held) (m .lostSum) (m .status) (m .timer) x (m .key) (m .bitFraming) (m .registers) (m .eeprom) (m .edition)
 
 abbrev pub withKey : Key → Machine → Machine
-withKey x m = machineOf (m .page) (m .command) (m .held) (m .status) (m .timer) (m .checksum) x (m .bitFraming) (m .registers) (m .eeprom) (m .edition)
+withKey x m = machineOf (m .page) (m .command) (m .held) (m .lostSum) (m .status) (m .timer) (m .checksum) x (m .bitFraming) (m .registers) (m .eeprom) (m .edition)
 
 abbrev pub withBitFraming : ℕ → Machine → Machine
-withBitFraming x m = machineOf (m .page) (m .command) (m .held) (m .status) (m .timer) (m .checksum) (m .key) x (m .registers) (m .eeprom) (m .edition)
+withBitFraming x m = machineOf (m .page) (m .command) (m .held) (m .lostSum) (m .status) (m .timer) (m .checksum) (m .key) x (m .registers) (m .eeprom) (m .edition)
 
 abbrev pub withRegisters : List ℕ → Machine → Machine
-withRegisters x m = machineOf (m .page) (m .command) (m .held) (m .status) (m .timer) (m .checksum) (m .key) (m .bitFraming) x (m .eeprom) (m .edition)
+withRegisters x m = machineOf (m .page) (m .command) (m .held) (m .lostSum) (m .status) (m .timer) (m .checksum) (m .key) (m .bitFraming) x (m .eeprom) (m .edition)
 
 abbrev pub withEeprom : List ℕ → Machine → Machine
-withEeprom x m = machineOf (m .page) (m .command) (m .held) (m .status) (m .timer) (m .checksum) (m .key) (m .bitFraming) (m .registers) x (m .edition)
+withEeprom x m = machineOf (m .page) (m .command) (m .held) (m .lostSum) (m .status) (m .timer) (m .checksum) (m .key) (m .bitFraming) (m .registers) x (m .edition)
 
 abbrev pub withEdition : Edition → Machine → Machine
-withEdition x m = machineOf (m .page) (m .command) (m .held) (m .status) (m .timer) (m .checksum) (m .key) (m .bitFraming) (m .registers) (m .eeprom) x
+withEdition x m = machineOf (m .page) (m .command) (m .held) (m .lostSum) (m .status) (m .timer) (m .checksum) (m .key) (m .bitFraming) (m .registers) (m .eeprom) x
 
 -- Setters of the status.
 abbrev pub withEnables : Interrupts → Machine → Machine

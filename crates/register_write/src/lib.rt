@@ -7,12 +7,13 @@ ghost use Rattle.machine.specs.Fifo.{flushed as Fifo·flushed, alerted as Fifo�
 ghost use Rattle.machine.specs.Timer.{timerStarted, timerStopped};
 ghost use Rattle.machine.specs.Registers.{interruptsWritten, registerWritten};
 ghost use Rattle.state.specs.View.{interruptsOf};
-ghost use Rattle.state.specs.Lent.{clocksState, stateRegisters, clocksStateRegisters};
+ghost use Rattle.state.specs.Lent.{clocksState, stateRegisters, clocksStateRegisters, numbersStateRegisters, clocksNumbersStateRegisters};
 ghost use Rattle.state.specs.Turns.{Turns};
 ghost use Rattle.register_write.specs.Written.{otherWritten};
 use state::BIT_FRAMING;
 use state::CONTROL;
 use state::ENABLES;
+use state::LOST_SUM;
 use state::PAGE;
 use state::REQUESTS;
 use state::cleared;
@@ -47,17 +48,18 @@ fn level_written(state: &mut [u8; 24], registers: &mut [u8; 32], v: u8)
     alerted(state, registers, before);
 }
 
-// FlushFIFO, where the flag is set: no byte is held, FIFOOvfl is cleared, and the alerts are judged.
-fn flushed(state: &mut [u8; 24], registers: &[u8; 32], flag: bool)
+// FlushFIFO, where the flag is set: no byte is held, FIFOOvfl and the sum of lost bytes are cleared, and the alerts are judged.
+fn flushed(numbers: &mut [u16; 6], state: &mut [u8; 24], registers: &[u8; 32], flag: bool)
     ensures { λ r.
-        let before = stateRegisters (now (state .entry)) (now (registers .entry)) in
-        let after = stateRegisters (now (state .exit)) (now (registers .entry)) in
+        let before = numbersStateRegisters (now (numbers .entry)) (now (state .entry)) (now (registers .entry)) in
+        let after = numbersStateRegisters (now (numbers .exit)) (now (state .exit)) (now (registers .entry)) in
         ⌜ Turns (λ m. cond flag (Fifo·alerted m (Fifo·flushed m)) m) before after ⌝ }
 {
     if flag {
         let before = alerts_of(state, registers);
         emptied(state);
         cleared(state, 0x10);
+        numbers[LOST_SUM] = 0;
         alerted(state, registers, before);
     }
 }
@@ -87,13 +89,21 @@ fn started(clocks: &mut [u32; 2], state: &mut [u8; 24], registers: &[u8; 32], fl
 }
 
 // Control is written (manual 2.4): the FIFO is flushed, the timer stopped and then started, as bits 0, 2 and 1 say; bits 5 and 4 are stored.
-fn control_written(clocks: &mut [u32; 2], state: &mut [u8; 24], registers: &[u8; 32], v: u8)
+fn control_written(
+    clocks: &mut [u32; 2],
+    numbers: &mut [u16; 6],
+    state: &mut [u8; 24],
+    registers: &[u8; 32],
+    v: u8,
+)
     ensures { λ r.
-        let before = clocksStateRegisters (now (clocks .entry)) (now (state .entry)) (now (registers .entry)) in
-        let after = clocksStateRegisters (now (clocks .exit)) (now (state .exit)) (now (registers .entry)) in
+        let before = clocksNumbersStateRegisters (now (clocks .entry)) (now (numbers .entry)) (now (state .entry))
+        (now (registers .entry)) in
+        let after = clocksNumbersStateRegisters (now (clocks .exit)) (now (numbers .exit)) (now (state .exit))
+        (now (registers .entry)) in
         ⌜ Turns (λ m. Fifo·alerted m (registerWritten 0x09 v m)) before after ⌝ }
 {
-    flushed(state, registers, v % 2 == 1);
+    flushed(numbers, state, registers, v % 2 == 1);
     stopped(clocks, state, v / 4 % 2 == 1);
     started(clocks, state, registers, v / 2 % 2 == 1);
     state[CONTROL] = 32 * (v / 32 % 2) + 16 * (v / 16 % 2);
@@ -103,14 +113,17 @@ fn control_written(clocks: &mut [u32; 2], state: &mut [u8; 24], registers: &[u8;
 // that a write does not change.
 pub fn register_written(
     clocks: &mut [u32; 2],
+    numbers: &mut [u16; 6],
     state: &mut [u8; 24],
     registers: &mut [u8; 32],
     register: u8,
     v: u8,
 )
     ensures { λ r.
-        let before = clocksStateRegisters (now (clocks .entry)) (now (state .entry)) (now (registers .entry)) in
-        let after = clocksStateRegisters (now (clocks .exit)) (now (state .exit)) (now (registers .exit)) in
+        let before = clocksNumbersStateRegisters (now (clocks .entry)) (now (numbers .entry)) (now (state .entry))
+        (now (registers .entry)) in
+        let after = clocksNumbersStateRegisters (now (clocks .exit)) (now (numbers .exit)) (now (state .exit))
+        (now (registers .exit)) in
         ⌜ Turns (λ m. Fifo·alerted m (otherWritten register v m)) before after ⌝ }
 {
     if register % 8 == 0 {
@@ -135,7 +148,7 @@ pub fn register_written(
         0x07 => {
             state[REQUESTS] = marked_bits(state[REQUESTS], v);
         }
-        0x09 => control_written(clocks, state, registers, v),
+        0x09 => control_written(clocks, numbers, state, registers, v),
         0x0F => {
             state[BIT_FRAMING] = v;
         }

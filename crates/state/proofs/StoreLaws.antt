@@ -14,11 +14,11 @@ use borrow.Author.Tests.{eqb-true, eqb-false}
 use Rattle.bits.proofs.Below.{all}
 use Rattle.machine.specs.State.{Machine}
 use Rattle.machine.proofs.WellFormed.Parts.{both, each}
-use Rattle.state.specs.View.{at, core, coreBy, viewOf, view, withState}
+use Rattle.state.specs.View.{at, core, coreBy, viewOf, view, withNumbers, withState}
 use Rattle.state.specs.Formed.{listed, writes, batchFits, agree, stageFormed, byteFormed, bytesFormed, fieldsBy, fieldsFormed}
 use Rattle.state.specs.Turns.{Sizes, Turned}
 use Rattle.state.specs.declared.Chip.{Chip}
-use Rattle.state.proofs.TurnLaws.{sized-state}
+use Rattle.state.proofs.TurnLaws.{sized-numbers, sized-state}
 
 -- Elements with one of them anew. At a known index `coreBy .. (put 7 x byte)` computes to the core with `errors` anew: that is every setter.
 abbrev pub put : ℕ → ℕ → (ℕ → ℕ) → ℕ → ℕ
@@ -106,3 +106,12 @@ unfolding viewOf
 set-byte f l k x c h other s is fits =
     stored (withState (set l k x) c) refl refl (at-set l k x (omega (arith, s .state-count))) f (withState l c)
     (sized-state s (set l k x) (length-set l k x ∙ s .state-count)) is (keeps-byte (withState l c) k x other fits)
+
+-- A store to any of the numbers but WriteE2's next address, of which the fields' agreement speaks.
+pub set-number : (f : Machine → Machine) (k x : ℕ) (c : Chip) → k < 6 → eqb 1 k ≡ false → Sizes c →
+    viewOf (coreBy (at (c .clocks)) (put k x (at (c .numbers))) (at (c .state))) c ≡ f (view c) → Turned f c (withNumbers (set (c .numbers) k x) c)
+unfolding viewOf fieldsFormed
+set-number f k x c h other s is =
+    stored (withNumbers (set (c .numbers) k x) c) refl (at-set (c .numbers) k x (omega (arith, s .number-count))) refl f c
+    (sized-numbers s (set (c .numbers) k x) (length-set (c .numbers) k x ∙ s .number-count)) is
+    (λ formed. ap (λ (t : Bool). fieldsBy (coreBy (at (c .clocks)) (λ j. cond (cond (eqb j 1) t (eqb j k)) x (at (c .numbers) j)) (at (c .state))) (at (c .state))) other ∙ formed)

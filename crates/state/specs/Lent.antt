@@ -35,6 +35,9 @@ numbersStateRegisters numbers state registers c = withNumbers numbers (withState
 abbrev pub numbersStateSlots : List ℕ → List ℕ → List ℕ → Chip → Chip
 numbersStateSlots numbers state slots c = withNumbers numbers (withState state (withSlots slots c))
 
+abbrev pub numbersStateRegistersSlots : List ℕ → List ℕ → List ℕ → List ℕ → Chip → Chip
+numbersStateRegistersSlots numbers state registers slots c = withNumbers numbers (withState state (withRegisters registers (withSlots slots c)))
+
 abbrev pub clocksStateSlotsKey : List ℕ → List ℕ → List ℕ → List ℕ → Chip → Chip
 clocksStateSlotsKey clocks state slots key c = withClocks clocks (withState state (withSlots slots (withKey key c)))
 
@@ -55,6 +58,13 @@ clocksNumbersStateRegisters clocks numbers state registers c = withClocks clocks
 
 abbrev pub clocksNumbersStateSlots : List ℕ → List ℕ → List ℕ → List ℕ → Chip → Chip
 clocksNumbersStateSlots clocks numbers state slots c = withClocks clocks (withNumbers numbers (withState state (withSlots slots c)))
+
+abbrev pub clocksNumbersStateSlotsEeprom : List ℕ → List ℕ → List ℕ → List ℕ → List ℕ → Chip → Chip
+clocksNumbersStateSlotsEeprom clocks numbers state slots eeprom c = withClocks clocks (withNumbers numbers (withState state (withSlots slots (withEeprom eeprom c))))
+
+abbrev pub clocksNumbersStateRegistersSlots : List ℕ → List ℕ → List ℕ → List ℕ → List ℕ → Chip → Chip
+clocksNumbersStateRegistersSlots clocks numbers state registers slots c =
+    withClocks clocks (withNumbers numbers (withState state (withRegisters registers (withSlots slots c))))
 
 abbrev pub clocksNumbersStateSlotsLatch : List ℕ → List ℕ → List ℕ → List ℕ → List ℕ → Chip → Chip
 clocksNumbersStateSlotsLatch clocks numbers state slots latch c = withClocks clocks (withNumbers numbers (withState state (withSlots slots (withLatch latch c))))

@@ -3,3 +3,4 @@ pub mod Lent
 pub mod Formed
 pub mod Turns
 pub mod Meets
+pub mod LostSum

@@ -11,17 +11,18 @@ use mathlib.Core.List.{List}
 use mathlib.Core.Path.{_≡_}
 use Rattle.machine.specs.WellFormed.{Sized}
 use Rattle.machine.specs.Refusals.{Call, start, hostRead, hostWrite, advance, takeFrame, deliver, refusal}
-use Rattle.machine.specs.Events.{Answer, refused, done, byte, frame, accepted, bufferOf}
+use Rattle.machine.specs.Events.{Answer, refused, done, lost, byte, frame, accepted, bufferOf}
 use Rattle.state.specs.View.{view}
 use Rattle.state.specs.Formed.{chipFormed}
 use Rattle.state.specs.Turns.{Sizes}
 use Rattle.state.specs.declared.Chip.{Chip}
 
 -- The number that stands for an answer (manual 9.8): bits 7-0 the refusal, 0 for none; bits 15-8 the byte read or the number of bytes written; bits
--- 23-16 the last bits. A call's own kind says which of these it has.
+-- 23-16 the last bits; bits 31-24 the number of bytes lost. A call's own kind says which of these it has.
 abbrev pub coded : Answer → ℕ
 coded (refused n) = n
 coded done = 0
+coded (lost n) = 0x100_0000 * n
 coded (byte b) = 0x100 * b
 coded (frame count lastBits) = 0x100 * count + 0x1_0000 * lastBits
 

@@ -36,6 +36,13 @@ Turns f before after = (c : Chip) → Sizes (before c) → Turned f (before c) (
 abbrev pub TurnsAll : (Machine → Machine) → Chip → Chip → Type 0
 TurnsAll f before after = Sizes before → Turned f before after
 
+-- A function that turns the machine, and answers how many bytes were lost on the way, which `lost` gives of the machine before.
+abbrev pub TurnsLosing : (Machine → Machine) → (Machine → ℕ) → (Chip → Chip) → (Chip → Chip) → ℕ → Type 0
+TurnsLosing f lost before after r = (c : Chip) → Sizes (before c) → Turned f (before c) (after c) × (r ≡ lost (view (before c)))
+
+abbrev pub TurnsAllLosing : (Machine → Machine) → (Machine → ℕ) → Chip → Chip → ℕ → Type 0
+TurnsAllLosing f lost before after r = Sizes before → Turned f before after × (r ≡ lost (view before))
+
 -- A function that reads: its answer is what a definition gives of the machine.
 abbrev pub Reads : {A : Type 0} → (Machine → A) → (Chip → Chip) → A → Type 0
 Reads f lent r = (c : Chip) → r ≡ f (view (lent c))

@@ -18,6 +18,7 @@ pub record Core : Type 0 where
   pub left : ℕ
   pub crcRegister : ℕ
   pub next : ℕ
+  pub lostSum : ℕ
   pub page : ℕ
   pub control : ℕ
   pub keyLoaded : ℕ
@@ -44,6 +45,7 @@ coreBy clock number byte =
       left = clock 1;
       crcRegister = number 0;
       next = number 1;
+      lostSum = number 2;
       page = byte 0;
       control = byte 1;
       keyLoaded = byte 2;
@@ -126,6 +128,7 @@ viewOf k c =
       page = k .page;
       command = commandOf k (c .latch);
       held = heldOf (k .read) (k .write) (c .slots);
+      lostSum = k .lostSum;
       status =
           record {
             enables = interruptsOf (k .enables);

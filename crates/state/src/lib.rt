@@ -2,11 +2,14 @@
 //
 // Any memory is some chip, which refusal 7 judges. Names are the data sheet's. specs/View.antt says which machine the arrays are,
 // specs/Formed.antt when a chip is well formed, specs/Turns.antt what a function on some of the arrays promises.
+ghost use mathlib.Core.Path.{_≡_};
 ghost use Rattle.state.specs.View.{withState, raised, marked, unmarked};
 ghost use Rattle.state.specs.Lent.{clocksState};
 ghost use Rattle.state.specs.Turns.{Turns, Reads, Counts, Holds};
 ghost use Rattle.machine.specs.Commands.{ended as Commands·ended};
 ghost use Rattle.machine.specs.Frames.{receiving, frameWaits};
+ghost use Rattle.machine.specs.Events.{lost as Events·lost};
+ghost use Rattle.state.specs.Meets.{coded};
 
 // A chip. Elements that no name below stands for are kept for later fields; a start leaves them 0.
 #[repr(C)]
@@ -26,10 +29,12 @@ pub const PHASE: usize = 0;
 
 pub const LEFT: usize = 1;
 
-// Elements of `numbers`: the CRC register, and the address at which WriteE2's next byte goes.
+// Elements of `numbers`: the CRC register, the address at which WriteE2's next byte goes, and the sum of lost bytes.
 pub const CRC_REGISTER: usize = 0;
 
 pub const NEXT: usize = 1;
+
+pub const LOST_SUM: usize = 2;
 
 // Elements of `state`. The first eight have bits that always read 0, which are judged together: Page, Control, whether a key is loaded, RxLastBits,
 // InterruptEn, ChannelRedundancy as the latest CalcCRC read it, InterruptRq and ErrorFlag.
@@ -137,4 +142,11 @@ pub fn ended(clocks: &mut [u32; 2], state: &mut [u8; 24])
     clocks[LEFT] = 0;
     state[STAGE] = 0x00;
     requested(state, 0x04);
+}
+
+// What a call answers that lost so many bytes: their number in bits 31-24.
+pub fn losing(lost: u8) -> u32
+    ensures { λ r. ⌜ r ≡ coded (Events·lost lost) ⌝ }
+{
+    0x100_0000 * (lost as u32)
 }

@@ -9,9 +9,9 @@ use lib.Dec.{ltb}
 use lib.ListN.{length, getD, drop, set, length-set, length-append}
 use borrow.Author.Tests.{lt-ltb, le-ltb}
 use Rattle.machine.specs.State.{Machine, withHeld}
-use Rattle.machine.specs.Fifo.{firstOf, restOf, offered, alerted}
+use Rattle.machine.specs.Fifo.{firstOf, restOf, oneLost, offered, lostAt, alerted}
 use Rattle.machine.proofs.Cases.{either}
-use Rattle.state.specs.View.{at, view, viewOf, heldCount, heldOf, raised, marked}
+use Rattle.state.specs.View.{at, view, viewOf, heldCount, heldOf, raised}
 use Rattle.state.specs.Lent.{stateSlots}
 use Rattle.state.specs.Turns.{Counts, Turns}
 use Rattle.state.proofs.RingLaws.{held-at, count-length, ring-stored}
@@ -25,13 +25,20 @@ pub offer-stored : (b : ℕ) (m : Machine) → length (m .held) < 64 → offered
 unfolding offered
 offer-stored b m room = simp (lt-ltb (length (m .held)) 64 room)
 
-pub offer-refused : (b : ℕ) (m : Machine) → 64 ≤ length (m .held) → marked 0x10 m ≡ offered b m
+pub offer-lost : (b : ℕ) (m : Machine) → 64 ≤ length (m .held) → oneLost m ≡ offered b m
 unfolding offered
-offer-refused b m full = simp (le-ltb (length (m .held)) 64 full)
+offer-lost b m full = simp (le-ltb (length (m .held)) 64 full)
 
--- A byte that is refused moves no alert: it changes neither the held bytes nor the level.
-pub refused-quiet : (m : Machine) → marked 0x10 m ≡ alerted m (marked 0x10 m)
-refused-quiet m = sym (alerted-same (marked 0x10 m)) ∙ sym (alerted-from (marked 0x10 m) (marked 0x10 m)) ∙ alerted-from m (marked 0x10 m)
+-- How many bytes that loses.
+pub none-lost : (m : Machine) → length (m .held) < 64 → 0 ≡ lostAt m
+none-lost m room = simp (lt-ltb (length (m .held)) 64 room)
+
+pub one-is-lost : (m : Machine) → 64 ≤ length (m .held) → 1 ≡ lostAt m
+one-is-lost m full = simp (le-ltb (length (m .held)) 64 full)
+
+-- A byte that is lost moves no alert: it changes neither the held bytes nor the level.
+pub lost-quiet : (m : Machine) → oneLost m ≡ alerted m (oneLost m)
+lost-quiet m = sym (alerted-same (oneLost m)) ∙ sym (alerted-from (oneLost m) (oneLost m)) ∙ alerted-from m (oneLost m)
 
 -- The first byte, and the others.
 pub first-at : (l : List ℕ) → getD l 0 0 ≡ firstOf l

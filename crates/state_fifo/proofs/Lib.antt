@@ -1,2 +1,3 @@
 pub mod AlertLaws
 pub mod FifoLaws
+pub mod OfferLaws

@@ -24,7 +24,7 @@ use Rattle.entry_in_place.proofs.mfrc531_deliver.Code as code
 
 -- How each array is lent, and the parameters beside the chip.
 abbrev ds : Ways ns
-ds = (lends mut, (lends imm, (lends mut, (lends imm, (lends mut, (keeps, (keeps, (lends imm, tt))))))))
+ds = (lends mut, (lends mut, (lends mut, (lends imm, (lends mut, (keeps, (keeps, (lends imm, tt))))))))
 
 abbrev ps : List (Beside 2)
 ps = shared 0 tt ∷ shared 1 tt ∷ scalar w8 ∷ []

@@ -2,20 +2,23 @@
 use borrow.Author.Needs.{needs}
 use borrow.Author.Tests.{not-true, not-false}
 use denote.Ref.{now}
-use mathlib.Core.Path.{_≡_, refl, sym, _∙_}
+use Prim.Native.Nat.{ℕ}
+use native.Mathlib.Omega.{arith}
+use mathlib.Core.Path.{_≡_, refl, sym, ap, _∙_}
 use mathlib.Core.Bool.{Bool, true, false, not}
 use mathlib.Core.List.{[]}
 use Rattle.machine.specs.Frames.{receiving}
 use Rattle.machine.specs.Refusals.{Call, deliver, refusal, refuseIf}
 use Rattle.state.specs.View.{view, withState, withSlots}
-use Rattle.state.specs.Lent.{clocksState, clocksNumbersStateRegistersSlotsEeprom}
+use Rattle.state.specs.Lent.{clocksNumbersState, clocksNumbersStateRegistersSlotsEeprom}
 use Rattle.state.specs.Formed.{chipFormed}
-use Rattle.state.specs.Meets.{chipRefusal, Whole}
+use Rattle.machine.specs.Events as answer
+use Rattle.state.specs.Meets.{coded, chipRefusal, Whole}
 use Rattle.state.specs.declared.Chip.{Chip}
 use Rattle.state.proofs.TurnLaws.{then}
 use Rattle.state.proofs.MeetLaws.{refused, malformed, deliver-unformed, deliver-judged, own-fields-formed, accepted-here}
 use Rattle.state.proofs.ByteLaws.{known-bytes}
-use Rattle.event_frame_deliver.proofs.DeliverLaws.{frame-delivered}
+use Rattle.event_frame_deliver.proofs.DeliverLaws.{frame-delivered, few-bytes}
 use Rattle.event_frame_deliver.proofs.deliver.Statement.{statement}
 use Rattle.event_frame_deliver.proofs.deliver.Tie as tie
 
@@ -37,6 +40,9 @@ received-requires c κs = search needs
 alerted-requires : tie.Need-alerted-requires
 alerted-requires c κs = search needs
 
+losing-requires : tie.Need-losing-requires
+losing-requires c κs = search needs
+
 -- The chip, and the call, where the function began.
 abbrev at-entry : tie.Start → Chip → Chip
 at-entry s = let a = s .args in clocksNumbersStateRegistersSlotsEeprom (now (a .clocks)) (now (a .numbers)) (now (a .state)) (now (a .registers)) (now (a .slots)) (now (a .eeprom))
@@ -46,7 +52,7 @@ called s = let a = s .args in deliver (now (a .bytes)) (now (a .parities)) (a .l
 
 -- Past the first test the chip is well formed.
 abbrev start : tie.Else1 → tie.Start
-start past = past .before .before .before .before .before .before
+start past = past .before .before .before .before .before .before .before
 
 well-formed : (past : tie.Else1) (chip : Chip) → Whole (at-entry (start past) chip) → chipFormed (at-entry (start past) chip) ≡ true
 well-formed past chip whole = sym (past .before .formed .ensures (at-entry (start past) chip) (whole .sizes)) ∙ not-false _ (past .if1 .left)
@@ -54,6 +60,15 @@ well-formed past chip whole = sym (past .before .formed .ensures (at-entry (star
 -- Past the second the frame is formed: the number, by whether the chip receives.
 abbrev entered : tie.Else2 → tie.Start
 entered past = start (past .before .before)
+
+-- What is lost is at most the frame.
+cast-losing : tie.Need-cast-losing
+cast-losing c =
+    let receives = c .before .before in
+    let past = receives .before .before .before .before .before .before .before .before .before .before in
+    let a = entered past .args in
+    let few = few-bytes (now (a .bytes)) (now (a .parities)) (a .last-bits) (sym (past .before .frame-formed .ensures) ∙ not-false _ (past .if2 .left)) in
+    record { fits = omega (arith, receives .received .ensures .1, few) }
 
 number : {r : Bool} (past : tie.Else2) (chip : Chip) → let s = entered past in let old = at-entry s chip in Whole old → r ≡ receiving (view old .command) →
     (t : Bool) → r ≡ t → let n = refuseIf (not t) 4 0 in (chipRefusal old (called s) ≡ n) × (refusal (view old) (called s) ≡ n)
@@ -65,7 +80,7 @@ number past chip whole is t e =
 
 returns : tie.Need-returns
 returns c chip whole =
-    let s = c .before .before .before .before .before .before in
+    let s = c .before .before .before .before .before .before .before in
     let old = at-entry s chip in
     malformed old (called s) tt (sym (c .before .formed .ensures old (whole .sizes)) ∙ not-true _ (c .if1 .taken)) whole
 
@@ -86,23 +101,25 @@ returns-3 c chip whole =
 
 returns-4 : tie.Need-returns-4
 returns-4 c chip whole =
-    let receives = c .before .before in
-    let alerts = receives .before .before .before .before in
+    let judges = c .before in
+    let receives = judges .before .before in
+    let alerts = receives .before .before .before .before .before in
     let tested = alerts .before .before in
     let past = tested .before .before .before in
     let s = entered past in
     let a = s .args in
     let bytes = now (a .bytes) in
     let old = at-entry s chip in
-    let received = clocksState (receives .received .last .0) (receives .received .last .1 .0) (withSlots (receives .received .last .1 .1 .1 .0) old) in
+    let l = receives .received .last in
+    let received = clocksNumbersState (l .0) (l .1 .0) (l .1 .1 .0) (withSlots (l .1 .1 .1 .1 .0) old) in
     let formed = well-formed (past .before .before) chip whole in
-    let first = receives .received .ensures old (whole .sizes) in
-    let turn = then first (c .alerted .ensures received (first .sizes)) in
-    accepted-here old formed (called s) (withState (c .alerted .last .0) received) 0 []
-    (known-bytes bytes (past .before .before .before .before .before .before .before .shared-slice-known .given)) whole
+    let (first, lost) = receives .received .ensures .0 old (whole .sizes) in
+    let turn = then first (judges .alerted .ensures received (first .sizes)) in
+    accepted-here old formed (called s) (withState (judges .alerted .last .0) received) (c .losing .result) []
+    (known-bytes bytes (past .before .before .before .before .before .before .before .before .shared-slice-known .given)) whole
     (number past chip whole (tested .before .receives .ensures old) true (not-false _ (tested .if3 .left)))
     (record {
-      answered = refl;
+      answered = c .losing .ensures ∙ ap (λ (n : ℕ). coded (answer.lost n)) lost;
       turned =
           turn .machine
           ∙ frame-delivered bytes (now (a .parities)) (a .last-bits) (view old) (alerts .alerts-of .result) (alerts .alerts-of .ensures .0 old);
@@ -124,4 +141,6 @@ deliver-spec =
     alerts-of-requires
     received-requires
     alerted-requires
+    cast-losing
+    losing-requires
     returns-4)

@@ -1,6 +1,8 @@
 -- `event_host_write::command_worked` meets its contract: its callees' turns in order, and the alerts over them. Assumes nothing.
 use borrow.Author.Needs.{needs}
 use denote.Ref.{now}
+use mathlib.Core.Path.{ap, _∙_}
+use Rattle.machine.specs.Commands.{lostSettling}
 use Rattle.state.specs.Lent.{clocksNumbersState, assembled}
 use Rattle.event_host_write.proofs.WorkLaws.{worked-over}
 use Rattle.event_host_write.proofs.command_worked.Statement.{statement}
@@ -29,8 +31,10 @@ returns c sizes =
     let l = works .worked .last in
     let worked = assembled (l .0) (l .1 .0) (l .1 .1 .0) (l .1 .1 .1 .0) (l .1 .1 .1 .1 .0) (l .1 .1 .1 .1 .1 .0) (l .1 .1 .1 .1 .1 .1 .0) (now (a .eeprom)) in
     let first = begins .command-written .ensures old sizes in
-    let second = works .worked .ensures (first .sizes) in
-    worked-over old written worked (counts .alerts-of .result) (counts .alerts-of .ensures .0 old) first second (c .alerted .ensures worked (second .sizes))
+    let (second, lost) = works .worked .ensures .0 (first .sizes) in (
+      worked-over old written worked (counts .alerts-of .result) (counts .alerts-of .ensures .0 old) first second (c .alerted .ensures worked (second .sizes)),
+      lost ∙ ap lostSettling (first .machine),
+    )
 
 pub command-worked-spec : {M : Type 1} → statement M
 command-worked-spec =

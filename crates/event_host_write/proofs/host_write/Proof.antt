@@ -3,13 +3,13 @@ use borrow.Author.Needs.{needs}
 use borrow.Author.Tests.{lt-ltb, not-true, not-false}
 use denote.Ref.{now}
 use native.Mathlib.Omega.{arith}
-use mathlib.Core.Path.{_≡_, sym, ap, _∙_}
+use mathlib.Core.Path.{_≡_, refl, sym, ap, _∙_}
 use mathlib.Core.Bool.{Bool, true}
 use mathlib.Core.Logic.{⊎-elim}
 use Rattle.machine.specs.Refusals.{Call, hostWrite, refuseIf}
 use Rattle.state.specs.View.{viewOf}
 use Rattle.state.specs.Formed.{chipFormed}
-use Rattle.state.specs.Lent.{numbersState, stateSlots, clocksStateRegisters, assembled}
+use Rattle.state.specs.Lent.{numbersState, numbersStateSlots, clocksNumbersStateRegisters, assembled}
 use Rattle.state.specs.Meets.{Whole}
 use Rattle.state.specs.declared.Chip.{Chip}
 use Rattle.state.proofs.RingLaws.{count-length}
@@ -91,30 +91,40 @@ returns-3 c whole =
     let found = third .before in
     let old = at-entry (began found) in
     let fed = c .checksum-fed in
-    data-summed (passes found whole) (numbersState (fed .last .0) (fed .last .1 .0) old) (third .if5 .taken) (tested .if6 .taken) (fed .ensures old (whole .sizes))
+    data-summed (passes found whole) (numbersState (fed .last .0) (fed .last .1 .0) old) 0 0 refl (third .if5 .taken) refl (tested .if6 .taken) (fed .ensures old (whole .sizes))
 
 fifo-written-requires : tie.Need-fifo-written-requires
 fifo-written-requires c κs = search needs
 
+losing-requires : tie.Need-losing-requires
+losing-requires c κs = search needs
+
 returns-4 : tie.Need-returns-4
 returns-4 c whole =
-    let tested = c .before .before .before .before in
+    let writes = c .before in
+    let tested = writes .before .before .before .before .before in
     let third = tested .before .before .before in
     let found = third .before in
     let old = at-entry (began found) in
-    let stored = c .fifo-written in
-    data-waits (passes found whole) (stateSlots (stored .last .0) (stored .last .1 .1 .0) old) (third .if5 .taken) (tested .if7 .taken) (stored .ensures old (whole .sizes))
+    let stored = writes .fifo-written in
+    let (turned, lost) = stored .ensures old (whole .sizes) in
+    data-waits (passes found whole) (numbersStateSlots (stored .last .0) (stored .last .1 .0) (stored .last .1 .1 .1 .0) old) _ _ (c .losing .ensures) (third .if5 .taken) (tested .if7 .taken) turned lost
 
 fifo-worked-requires : tie.Need-fifo-worked-requires
 fifo-worked-requires c κs = search needs
 
+losing-requires-2 : tie.Need-losing-requires-2
+losing-requires-2 c κs = search needs
+
 returns-5 : tie.Need-returns-5
 returns-5 c whole =
-    let third = c .before .before .before .before .before .before .before .before .before .before .before in
+    let works = c .before in
+    let third = works .before .before .before .before .before .before .before .before .before .before .before in
     let found = third .before in
-    let l = c .fifo-worked .last in
+    let l = works .fifo-worked .last in
     let next = assembled (l .0) (l .1 .0) (l .1 .1 .0) (l .1 .1 .1 .0) (l .1 .1 .1 .1 .0) (l .1 .1 .1 .1 .1 .0) (l .1 .1 .1 .1 .1 .1 .0) (now (began found .args .eeprom)) in
-    data-worked (passes found whole) next (third .if5 .taken) (c .fifo-worked .ensures (whole .sizes))
+    let (turned, lost) = works .fifo-worked .ensures (whole .sizes) in
+    data-worked (passes found whole) next _ _ (c .losing2 .ensures) (third .if5 .taken) turned lost
 
 held-requires : tie.Need-held-requires
 held-requires c κs = search needs
@@ -139,31 +149,36 @@ returns-6 c whole =
     let old = at-entry (began found) in
     let begun = c .checksum-begun in
     let test = sym (asked .begins-checksum .ensures) ∙ tested .if9 .taken in
-    command-begins (passes found whole) (numbersState (begun .last .0) (begun .last .1 .0) old) (sixth .if8 .taken)
+    command-begins (passes found whole) (numbersState (begun .last .0) (begun .last .1 .0) old) 0 0 refl (sixth .if8 .taken) refl
     (counted .held .result) (count-length (counted .held .ensures) (old .slots)) test (λ none. begun .ensures old none (whole .sizes))
 
 command-worked-requires : tie.Need-command-worked-requires
 command-worked-requires c κs = search needs
 
+losing-requires-3 : tie.Need-losing-requires-3
+losing-requires-3 c κs = search needs
+
 returns-7 : tie.Need-returns-7
 returns-7 c whole =
-    let sixth = c .before .before .before .before .before .before .before .before .before .before .before .before .before in
+    let works = c .before in
+    let sixth = works .before .before .before .before .before .before .before .before .before .before .before .before .before in
     let found = sixth .before .before in
-    let l = c .command-worked .last in
+    let l = works .command-worked .last in
     let next = assembled (l .0) (l .1 .0) (l .1 .1 .0) (l .1 .1 .1 .0) (l .1 .1 .1 .1 .0) (l .1 .1 .1 .1 .1 .0) (l .1 .1 .1 .1 .1 .1 .0) (now (began found .args .eeprom)) in
-    command-worked (passes found whole) next (sixth .if8 .taken) (c .command-worked .ensures (whole .sizes))
+    let (turned, lost) = works .command-worked .ensures (whole .sizes) in
+    command-worked (passes found whole) next _ _ (c .losing3 .ensures) (sixth .if8 .taken) turned lost
 
 register-written-requires : tie.Need-register-written-requires
 register-written-requires c κs = search needs
 
 returns-8 : tie.Need-returns-8
 returns-8 c whole =
-    let sixth = c .before .before .before .before in
+    let sixth = c .before .before .before .before .before in
     let third = sixth .before in
     let found = third .before in
     let old = at-entry (began found) in
     let written = c .register-written in
-    other-wrote (passes found whole) (clocksStateRegisters (written .last .0) (written .last .1 .0) (written .last .1 .1 .0) old) (sixth .if8 .left) (third .if5 .left)
+    other-wrote (passes found whole) (clocksNumbersStateRegisters (written .last .0) (written .last .1 .0) (written .last .1 .1 .0) (written .last .1 .1 .1 .0) old) 0 0 refl refl (sixth .if8 .left) (third .if5 .left)
     (written .ensures old (whole .sizes))
 
 pub host-write-spec : {M : Type 1} → statement M
@@ -181,8 +196,10 @@ host-write-spec =
     checksum-fed-requires
     returns-3
     fifo-written-requires
+    losing-requires
     returns-4
     fifo-worked-requires
+    losing-requires-2
     returns-5
     held-requires
     element-copy-out-begins-checksum
@@ -190,6 +207,7 @@ host-write-spec =
     checksum-begun-requires
     returns-6
     command-worked-requires
+    losing-requires-3
     returns-7
     register-written-requires
     returns-8)

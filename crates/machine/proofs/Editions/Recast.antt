@@ -11,15 +11,16 @@ use borrow.Author.Tests.{leb-true}
 use Rattle.edition.specs.declared.Edition.{Edition}
 use Rattle.bits.specs.Bits.{bitSet}
 use Rattle.machine.specs.State.{Machine, Command, Writing, Idle, WriteE2, ReadE2, LoadConfig, LoadKeyE2, LoadKey, CalcCRC, Transmit, Receive, TransceiveSending, TransceiveReceiving, addressing, ready, programming, withCommand, withHeld, withRegisters, withEeprom, withEdition, withControl, withRxLastBits}
-use Rattle.machine.specs.Fifo.{registerAt, offered, offeredAll, flushed, loAlert, hiAlert, alerted}
+use Rattle.machine.specs.Fifo.{registerAt, offered, offeredAll, lostOf, flushed, loAlert, hiAlert, alerted}
 use Rattle.machine.specs.Timer.{timerStarted, timerStopped, timerClock, TStartTxBegin, TStartTxEnd, TStopRx}
 use Rattle.machine.specs.Memory.{addressOf, bytesFrom, storedFrom, overRegisters}
-use Rattle.machine.specs.Commands.{programs, codeOf, commandStarted, commandWritten, clearedErrors, enough, argument, taken, writeStepped, readable, readBytes, readFrom, configuredFrom, keyFrom, keyJudged, raisedTx, raisedRx, ended, checksumTaken, steppedAs, stepped, settled}
-use Rattle.machine.specs.Frames.{sending, txBegun, txEnded, afterSending, sent, parityWrong, anyParityWrong, parityFails, crcFails, passed, completeBytes, withFrameErrors, rxStopped, received}
-use Rattle.machine.specs.Registers.{mapped, controlWritten, registerWritten}
-use Rattle.machine.specs.Events.{batchStored, programmed, programmingClocked, commandClocked, clock, clocks, written, afterRead, advanced, delivered}
+use Rattle.machine.specs.Commands.{programs, codeOf, commandStarted, commandWritten, clearedErrors, enough, argument, taken, writeStepped, readable, readBytes, readFrom, configuredFrom, keyFrom, keyJudged, raisedTx, raisedRx, ended, checksumTaken, steppedAs, stepped, settled, lostAs, lostStepping, lostSettling}
+use Rattle.machine.specs.Frames.{sending, txBegun, txEnded, afterSending, sent, parityWrong, anyParityWrong, parityFails, crcFails, passed, completeBytes, withFrameErrors, rxStopped, received, lostReceiving}
+use Rattle.machine.specs.Registers.{mapped, controlWritten, registerWritten, lostAtRegister}
+use Rattle.machine.specs.Events.{batchStored, programmed, programmingClocked, commandClocked, clock, clocks, written, lostWriting, afterRead, advanced, delivered}
 use Rattle.machine.specs.Events as events
 use Rattle.machine.proofs.Cases.{either, while-programming}
+use Rattle.machine.proofs.Lost.{lost-by-held}
 use Rattle.machine.proofs.Editions.Block0.{above, clock-goes}
 
 -- A machine with this edition, and this in the place of its memory.
@@ -167,6 +168,35 @@ module _ (e : Edition) (g : List ℕ → List ℕ) where
       let n = steppedAs (m .command) m in
       same (ap stepped (step-same (m .command) m h .is) ∙ step-same (n .command) n (again (m .command) m refl h) .is)
 
+  -- It loses as many bytes of what it reads.
+  lost-as-same : (c : Command) (m : Machine) → SameReads c m → lostAs c (R m) ≡ lostAs c m
+  lost-as-same Idle m h = refl
+  lost-as-same (WriteE2 w) m h = refl
+  lost-as-same ReadE2 m h = go (enough 3 m) h
+    where
+      read : List ℕ → List ℕ
+      read memory = readBytes memory (address m) (argument 2 m)
+
+      go : (t : Bool) → (t ≡ true → read (g (m .eeprom)) ≡ read (m .eeprom)) → cond t (lostOf (read (g (m .eeprom))) (taken 3 (R m))) 0 ≡ cond t (lostOf (read (m .eeprom)) (taken 3 m)) 0
+      go true k = ap (λ (bs : List ℕ). lostOf bs (taken 3 (R m))) (k refl) ∙ lost-by-held (read (m .eeprom)) (taken 3 (R m)) (taken 3 m) refl
+      go false k = refl
+  lost-as-same LoadConfig m h = refl
+  lost-as-same LoadKeyE2 m h = refl
+  lost-as-same LoadKey m h = refl
+  lost-as-same CalcCRC m h = refl
+  lost-as-same Transmit m h = refl
+  lost-as-same Receive m h = refl
+  lost-as-same TransceiveSending m h = refl
+  lost-as-same TransceiveReceiving m h = refl
+
+  lost-settling-same : (m : Machine) → SameReads (m .command) m → lostSettling (R m) ≡ lostSettling m
+  unfolding lostSettling lostStepping stepped
+  lost-settling-same m h =
+      let n = steppedAs (m .command) m in
+      ap (λ (k : ℕ). k + lostStepping (stepped (R m))) (lost-as-same (m .command) m h)
+      ∙ ap (λ (x : Machine). lostStepping m + lostStepping x) (step-same (m .command) m h .is)
+      ∙ ap (λ (k : ℕ). lostStepping m + k) (lost-as-same (n .command) n (again (m .command) m refl h))
+
   -- A write to any register.
   control-same : (v : ℕ) (m : Machine) → S (controlWritten v (R m)) (controlWritten v m)
   control-same v m =
@@ -194,6 +224,13 @@ module _ (e : Edition) (g : List ℕ → List ℕ) where
   written-same a v m h =
       let r = mapped (m .page) a in
       alerted-same m (same (ap settled (register-same r v m .is) ∙ settled-same (registerWritten r v m) h .is))
+
+  pub lost-writing-same : (a v : ℕ) (m : Machine) → (let n = registerWritten (mapped (m .page) a) v m in SameReads (n .command) n) →
+      lostWriting a v (R m) ≡ lostWriting a v m
+  unfolding lostWriting
+  lost-writing-same a v m h =
+      let r = mapped (m .page) a in
+      ap (λ (k : ℕ). lostAtRegister r m + k) (ap lostSettling (register-same r v m .is) ∙ lost-settling-same (registerWritten r v m) h)
 
   pub after-read-same : (a : ℕ) (m : Machine) → S (afterRead a (R m)) (afterRead a m)
   unfolding afterRead
@@ -227,6 +264,10 @@ module _ (e : Edition) (g : List ℕ → List ℕ) where
       (same
       (ap (λ (t : Bool). withFrameErrors (crcFails m bytes lastBits) (bitSet (registerAt m 0x22) 0 && t) (rxStopped (R m))) (parities-same m (completeBytes bytes lastBits) parities)
       ∙ over (withFrameErrors (crcFails m bytes lastBits) (parityFails m bytes parities lastBits)) (λ y. same refl) (pick (TStopRx m) {x = timerStopped m} (same refl) (same refl)) .is))))))
+
+  pub lost-receiving-same : (bytes : List ℕ) (lastBits : ℕ) (m : Machine) → lostReceiving bytes lastBits (R m) ≡ lostReceiving bytes lastBits m
+  unfolding lostReceiving
+  lost-receiving-same bytes lastBits m = lost-by-held (passed m bytes lastBits) (R m) m refl
 
   -- Clocks, where what is stored from 010h on is stored alike in both.
   module _ (stores : (l : List ℕ) (a : ℕ) (bs : List ℕ) → 0x10 ≤ a → g (storedFrom l a bs) ≡ storedFrom (g l) a bs) where

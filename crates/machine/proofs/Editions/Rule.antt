@@ -21,13 +21,13 @@ use Rattle.machine.specs.Frames.{sending, receiving}
 use Rattle.machine.specs.Registers.{mapped, registerRead, registerWritten}
 use Rattle.machine.specs.WellFormed.{fifoFormed, wellFormed}
 use Rattle.machine.specs.Refusals.{Call, start, hostRead, hostWrite, advance, takeFrame, deliver, refusal, refuseIf, frameFormed}
-use Rattle.machine.specs.Events.{Outcome, refused, accepted, bufferOf, bufferTaken, readByte, perform, afterCalls, started, written}
+use Rattle.machine.specs.Events.{Outcome, refused, lost, accepted, bufferOf, bufferTaken, readByte, perform, afterCalls, started, written}
 use Rattle.machine.specs.Editions.{isStart, startsAnew, NoneStarts, commandReadsType, readsType, Alike, OwnType, AnswersAlike, EachAlike, NoneReads, typeRead, Editions}
 use Rattle.machine.proofs.Cases.{by-cond}
 use Rattle.machine.proofs.Performing.{as-accepted, passed-test, not-false}
 use Rattle.machine.proofs.WellFormed.Parts.{each, othersFormed, well-command}
 use Rattle.machine.proofs.Editions.Block0.{above, formed-above, Keeps, keeps-all, keeps-then, keeps-type}
-use Rattle.machine.proofs.Editions.Recast.{recast, Same, SameReads, written-same, after-read-same, taken-same, delivered-same, advanced-same}
+use Rattle.machine.proofs.Editions.Recast.{recast, Same, SameReads, written-same, lost-writing-same, after-read-same, taken-same, delivered-same, lost-receiving-same, advanced-same}
 use Rattle.machine.proofs.Editions.Front.{front, drop-front, stored-front, read-front}
 use Rattle.machine.proofs.Editions.Kept.{accepted-kept}
 
@@ -173,10 +173,13 @@ module _ (e : Edition) (b : List ℕ) (has : 4 ≤ length b) where
     accepted-alike (start image) other h unread-it = absurd (true≢false other)
     accepted-alike (hostRead address) other h unread-it = (refl, refl, after-read-same e g address m)
     accepted-alike (hostWrite address v) other h unread-it =
-        let n = registerWritten (mapped (m .page) address) v m in (refl, refl, written-same e g address v m (unread (n .command) n unread-it))
+        let n = registerWritten (mapped (m .page) address) v m in
+        let reads = unread (n .command) n unread-it in
+        (ap lost (lost-writing-same e g address v m reads), refl, written-same e g address v m reads)
     accepted-alike (advance n) other h unread-it = (refl, refl, advanced-same e g (λ l a bs low. stored-front b 4 has l a bs (omega (arith, low))) n m h)
     accepted-alike (takeFrame buffer) other h unread-it = (refl, refl, taken-same e g m)
-    accepted-alike (deliver bytes parities lastBits) other h unread-it = (refl, refl, delivered-same e g bytes parities lastBits m)
+    accepted-alike (deliver bytes parities lastBits) other h unread-it =
+        (ap lost (lost-receiving-same e g bytes lastBits m), refl, delivered-same e g bytes parities lastBits m)
 
     perform-alike : (c : Call) → isStart c ≡ false → readsType m c ≡ false → AlikeOutcome (perform R c) (perform m c)
     unfolding perform
@@ -197,6 +200,7 @@ alike-same {x} {y} e b has s =
       page = part (λ z. z .page);
       command = part (λ z. z .command);
       held = part (λ z. z .held);
+      lostSum = part (λ z. z .lostSum);
       status = part (λ z. z .status);
       timer = part (λ z. z .timer);
       checksum = part (λ z. z .checksum);
@@ -212,12 +216,12 @@ alike-same {x} {y} e b has s =
 recast-alike : {m n : Machine} → Alike m n → recast (n .edition) (front (n .eeprom) 4) m ≡ n
 recast-alike {m} {n} a =
     let memory = ap (λ (l : List ℕ). take 4 (n .eeprom) ++ l) (a .beyond-type) ∙ take-append-drop 4 (n .eeprom) in
-    λ i. machineOf (a .page i) (a .command i) (a .held i) (a .status i) (a .timer i) (a .checksum i) (a .key i) (a .bitFraming i) (a .registers i) (memory i) (n .edition)
+    λ i. machineOf (a .page i) (a .command i) (a .held i) (a .lostSum i) (a .status i) (a .timer i) (a .checksum i) (a .key i) (a .bitFraming i) (a .registers i) (memory i) (n .edition)
 
 -- A start, refused or not, does not go by the machine that it finds.
 alike-started : (image : List ℕ) → Alike (started image) (started image)
 alike-started image =
-    record { page = refl; command = refl; held = refl; status = refl; timer = refl; checksum = refl; key = refl; bitFraming = refl; registers = refl; beyond-type = refl }
+    record { page = refl; command = refl; held = refl; lostSum = refl; status = refl; timer = refl; checksum = refl; key = refl; bitFraming = refl; registers = refl; beyond-type = refl }
 
 start-alike : (m n : Machine) (image : List ℕ) → Alike m n → AnswersAlike m n (start image)
 unfolding perform refusal

@@ -10,8 +10,8 @@ use Rattle.bits.specs.Bits.{bit, bitSet}
 use Rattle.machine.specs.State.{withControl}
 use Rattle.machine.specs.Fifo.{flushed, alerted}
 use Rattle.machine.specs.Registers.{registerWritten}
-use Rattle.state.specs.View.{view, viewOf, withState, withClocks}
-use Rattle.state.specs.Lent.{clocksStateRegisters}
+use Rattle.state.specs.View.{view, viewOf, withClocks, withNumbers, withState}
+use Rattle.state.specs.Lent.{clocksNumbersStateRegisters}
 use Rattle.state.proofs.StoreLaws.{set-byte}
 use Rattle.state.proofs.TurnLaws.{then, becomes}
 use Rattle.register_write.proofs.WriteLaws.{controls, control-alerted}
@@ -44,12 +44,12 @@ unfolding viewOf registerWritten
 returns c chip sizes =
     let stops = c .before .before .before in
     let flushes = stops .before .before .before in
-    let a = flushes .before .before .args in
+    let a = flushes .before .before .before .args in
     let v = a .v in
     let x = 32 * bit v 5 + 16 * bit v 4 in
-    let old = clocksStateRegisters (now (a .clocks)) (now (a .state)) (now (a .registers)) chip in
+    let old = clocksNumbersStateRegisters (now (a .clocks)) (now (a .numbers)) (now (a .state)) (now (a .registers)) chip in
     let first = flushes .flushed .ensures old sizes in
-    let emptied = withState (flushes .flushed .last .0) old in
+    let emptied = withNumbers (flushes .flushed .last .0) (withState (flushes .flushed .last .1 .0) old) in
     let second = stops .stopped .ensures emptied (first .sizes) in
     let still = withClocks (stops .stopped .last .0) (withState (stops .stopped .last .1 .0) emptied) in
     let third = c .started .ensures still (second .sizes) in

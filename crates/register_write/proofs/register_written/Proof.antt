@@ -10,7 +10,7 @@ use Rattle.bits.specs.Bits.{bit}
 use Rattle.machine.specs.State.{Interrupts, withPage, withEnables, withRequests, withBitFraming}
 use Rattle.machine.specs.Registers.{registerWritten}
 use Rattle.state.specs.View.{at, interruptsOf, view, viewOf}
-use Rattle.state.specs.Lent.{clocksStateRegisters}
+use Rattle.state.specs.Lent.{clocksNumbersStateRegisters}
 use Rattle.state.proofs.StoreLaws.{set-byte, own-formed}
 use Rattle.state.proofs.TurnLaws.{stays}
 use Rattle.register_write.specs.Written.{otherWritten}
@@ -32,7 +32,7 @@ returns : tie.Need-returns
 unfolding viewOf
 returns c chip sizes =
     let a = c .before .args in
-    let old = clocksStateRegisters (now (a .clocks)) (now (a .state)) (now (a .registers)) chip in
+    let old = clocksNumbersStateRegisters (now (a .clocks)) (now (a .numbers)) (now (a .state)) (now (a .registers)) chip in
     let x = 128 * bit (a .v) 7 + a .v % 8 in
     quiet-write (a .register) (a .v) (set-byte (withPage x) (now (a .state)) 0 x old (lit< tt) refl sizes refl (λ bytes. refl))
     (page-written (a .register) (a .v) (view old) (c .if1 .taken)) refl refl
@@ -44,14 +44,14 @@ returns-2 : tie.Need-returns-2
 returns-2 c chip sizes =
     let test = c .before .before .before in
     let a = test .before .before .before .args in
-    let old = clocksStateRegisters (now (a .clocks)) (now (a .state)) (now (a .registers)) chip in
+    let old = clocksNumbersStateRegisters (now (a .clocks)) (now (a .numbers)) (now (a .state)) (now (a .registers)) chip in
     known-write (a .register) 0x29 (a .v) refl (test .if3 .taken) (c .level-written .ensures old sizes)
 
 returns-3 : tie.Need-returns-3
 returns-3 c chip sizes =
     let not-page = c .before .before .before in
     let a = not-page .before .args in
-    let old = clocksStateRegisters (now (a .clocks)) (now (a .state)) (now (a .registers)) chip in
+    let old = clocksNumbersStateRegisters (now (a .clocks)) (now (a .numbers)) (now (a .state)) (now (a .registers)) chip in
     quiet-write (a .register) (a .v) (stays old sizes) (high-unused (a .register) (a .v) (view old) (not-page .if1 .left) (c .if4 .taken)) refl refl
 
 cast-registers : tie.Need-cast-registers
@@ -67,7 +67,7 @@ returns-4 c chip sizes =
     let high = not-level .before in
     let not-page = high .before in
     let a = not-page .before .args in
-    let old = clocksStateRegisters (now (a .clocks)) (now (a .state)) (now (a .registers)) chip in
+    let old = clocksNumbersStateRegisters (now (a .clocks)) (now (a .numbers)) (now (a .state)) (now (a .registers)) chip in
     quiet-write (a .register) (a .v) (register-stored (a .register - 0x10) (a .v) old sizes)
     (high-stored (a .register) (a .v) (view old) (not-page .if1 .left) (high .if2 .taken) (c .if4 .left)) refl
     (getD-set-other (now (a .registers)) (a .register - 0x10) 0x19 (a .v) 0 (λ e. not-level .if3 .left (omega (arith, e))))
@@ -102,7 +102,7 @@ returns-5 c chip sizes =
     let arm = c .before .before in
     let a = arm .before .before .before .args in
     let l = now (a .state) in
-    let old = clocksStateRegisters (now (a .clocks)) (now (a .state)) (now (a .registers)) chip in
+    let old = clocksNumbersStateRegisters (now (a .clocks)) (now (a .numbers)) (now (a .state)) (now (a .registers)) chip in
     let byte = c .marked-bits .result in
     quiet-write (a .register) (a .v)
     (set-byte (withEnables (interruptsOf byte)) l 4 byte old (lit< tt) refl sizes refl (λ bytes. high-clear (at l 4) byte (c .marked-bits .ensures .1) (own-formed (at l) 12 4 (lit< tt) bytes)))
@@ -114,7 +114,7 @@ returns-6 c chip sizes =
     let arm = c .before .before in
     let a = arm .before .before .before .args in
     let l = now (a .state) in
-    let old = clocksStateRegisters (now (a .clocks)) (now (a .state)) (now (a .registers)) chip in
+    let old = clocksNumbersStateRegisters (now (a .clocks)) (now (a .numbers)) (now (a .state)) (now (a .registers)) chip in
     let byte = c .marked-bits2 .result in
     quiet-write (a .register) (a .v)
     (set-byte (withRequests (interruptsOf byte)) l 6 byte old (lit< tt) refl sizes refl (λ bytes. high-clear (at l 6) byte (c .marked-bits2 .ensures .1) (own-formed (at l) 12 6 (lit< tt) bytes)))
@@ -122,16 +122,16 @@ returns-6 c chip sizes =
 
 returns-7 : tie.Need-returns-7
 returns-7 c chip sizes =
-    let arm = c .before .before .before .before in
+    let arm = c .before .before .before .before .before in
     let a = arm .before .before .before .args in
-    let old = clocksStateRegisters (now (a .clocks)) (now (a .state)) (now (a .registers)) chip in
+    let old = clocksNumbersStateRegisters (now (a .clocks)) (now (a .numbers)) (now (a .state)) (now (a .registers)) chip in
     known-write (a .register) 0x09 (a .v) refl (arm .match .keys3) (c .control-written .ensures old sizes)
 
 returns-8 : tie.Need-returns-8
 unfolding viewOf otherWritten registerWritten
 returns-8 c chip sizes =
     let a = c .before .before .before .args in
-    let old = clocksStateRegisters (now (a .clocks)) (now (a .state)) (now (a .registers)) chip in
+    let old = clocksNumbersStateRegisters (now (a .clocks)) (now (a .numbers)) (now (a .state)) (now (a .registers)) chip in
     quiet-write (a .register) (a .v) (set-byte (withBitFraming (a .v)) (now (a .state)) 16 (a .v) old (lit< tt) refl sizes refl (λ bytes. refl))
     (write-as (a .register) 0x0F (a .v) (view old) (c .match .keys4)) refl refl
 
@@ -140,7 +140,7 @@ returns-9 c chip sizes =
     let low = c .before in
     let not-page = low .before in
     let a = not-page .before .args in
-    let old = clocksStateRegisters (now (a .clocks)) (now (a .state)) (now (a .registers)) chip in
+    let old = clocksNumbersStateRegisters (now (a .clocks)) (now (a .numbers)) (now (a .state)) (now (a .registers)) chip in
     quiet-write (a .register) (a .v) (stays old sizes) (low-unused (a .register) (a .v) (view old) (not-page .if1 .left) (omega (arith, low .if2 .left)) (c .match .rest)) refl refl
 
 pub register-written-spec : {M : Type 1} → statement M

@@ -1,15 +1,15 @@
 -- `state_fifo::fifo_written` meets its contract, by whether there is room; the alerts are those over that. Assumes nothing.
 use denote.Ref.{now}
-use Prim.Native.Nat.{_+_, _%_, _<_}
+use Prim.Native.Nat.{_+_, _%_, _<_, _≤_}
 use native.Mathlib.Omega.{arith}
 use mathlib.Core.Path.{ap, _∙_}
-use lib.ListN.{set}
+use lib.ListN.{length, set}
 use Rattle.machine.specs.Fifo.{offered, alerted}
 use Rattle.state.specs.View.{at, view, viewOf}
-use Rattle.state.specs.Lent.{stateRegistersSlots}
+use Rattle.state.specs.Lent.{numbersStateRegistersSlots}
 use Rattle.state.proofs.RingLaws.{count-length}
 use Rattle.state.proofs.TurnLaws.{then, becomes}
-use Rattle.state_fifo.proofs.FifoLaws.{offer-refused, refused-quiet, stored-byte, stored-registers, stored-length, alerts-over}
+use Rattle.state_fifo.proofs.FifoLaws.{offer-lost, lost-quiet, none-lost, one-is-lost, stored-byte, stored-registers, stored-length, alerts-over}
 use borrow.Author.Needs.{needs}
 use Rattle.state_fifo.proofs.fifo_written.Statement.{statement}
 use Rattle.state_fifo.proofs.fifo_written.Tie as tie
@@ -17,17 +17,19 @@ use Rattle.state_fifo.proofs.fifo_written.Tie as tie
 held-requires : tie.Need-held-requires
 held-requires c κs = search needs
 
-failed-requires : tie.Need-failed-requires
-failed-requires c κs = search needs
+one-lost-requires : tie.Need-one-lost-requires
+one-lost-requires c κs = search needs
 
 returns : tie.Need-returns
 unfolding viewOf
 returns c chip sizes =
-    let past = c .before .before .before in
+    let past = c .before .before .before .before in
     let a = past .before .before .args in
-    let old = stateRegistersSlots (now (a .state)) (now (a .registers)) (now (a .slots)) chip in
-    becomes (λ m. alerted m (offered (a .byte) m)) (c .failed .ensures old sizes)
-    (refused-quiet (view old) ∙ ap (alerted (view old)) (offer-refused (a .byte) (view old) (omega (arith, count-length (past .held .ensures) (now (a .slots))))))
+    let old = numbersStateRegistersSlots (now (a .numbers)) (now (a .state)) (now (a .registers)) (now (a .slots)) chip in
+    let full : 64 ≤ length (view old .held) = omega (arith, count-length (past .held .ensures) (now (a .slots))) in (
+      becomes (λ m. alerted m (offered (a .byte) m)) (c .one-lost .ensures old sizes) (lost-quiet (view old) ∙ ap (alerted (view old)) (offer-lost (a .byte) (view old) full)),
+      one-is-lost (view old) full,
+    )
 
 element-copy-out-write : tie.Need-element-copy-out-write
 element-copy-out-write c = search needs
@@ -70,22 +72,25 @@ returns-2 c chip sizes =
     let a = past .before .before .args in
     let l = now (a .state) in
     let p = past .held .ensures in
+    let count = count-length p (now (a .slots)) in
     let room : past .held .result < 64 = omega arith in
     let x = moved .wrapping-add-u8 .result in
-    let old = stateRegistersSlots l (now (a .registers)) (now (a .slots)) chip in
-    let next = stateRegistersSlots (set l 14 x) (now (a .registers)) (set (now (a .slots)) (at l 14 % 64) (a .byte)) chip in
-    let stores = stored-byte l (now (a .slots)) p room (a .byte) x (moved .wrapping-add-u8 .ensures) old sizes in
-    becomes (λ m. alerted m (offered (a .byte) m)) (then stores (c .requested .ensures next (stores .sizes)))
-    (alerts-over (view old) (offered (a .byte) (view old)) (past .held .result) (past .held .result + 1) (level .fifo-level .result) (first .alerts .result) (second .alerts2 .result)
-    (level .fifo-level .ensures) (stored-registers (a .byte) (view old)) (count-length p (now (a .slots)))
-    (stored-length (a .byte) (view old) (past .held .result) (count-length p (now (a .slots))) room) (first .alerts .ensures .0) (second .alerts2 .ensures .0))
+    let old = numbersStateRegistersSlots (now (a .numbers)) l (now (a .registers)) (now (a .slots)) chip in
+    let next = numbersStateRegistersSlots (now (a .numbers)) (set l 14 x) (now (a .registers)) (set (now (a .slots)) (at l 14 % 64) (a .byte)) chip in
+    let stores = stored-byte l (now (a .slots)) p room (a .byte) x (moved .wrapping-add-u8 .ensures) old sizes in (
+      becomes (λ m. alerted m (offered (a .byte) m)) (then stores (c .requested .ensures next (stores .sizes)))
+          (alerts-over (view old) (offered (a .byte) (view old)) (past .held .result) (past .held .result + 1) (level .fifo-level .result) (first .alerts .result) (second .alerts2 .result)
+          (level .fifo-level .ensures) (stored-registers (a .byte) (view old)) count
+          (stored-length (a .byte) (view old) (past .held .result) count room) (first .alerts .ensures .0) (second .alerts2 .ensures .0)),
+      none-lost (view old) (omega (arith, count)),
+    )
 
 pub fifo-written-spec : {M : Type 1} → statement M
 fifo-written-spec =
     tie.close
     (tie.spec
     held-requires
-    failed-requires
+    one-lost-requires
     returns
     element-copy-out-write
     cast-slot

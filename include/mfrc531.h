@@ -29,6 +29,10 @@
  * Alerts. LoAlertIRq and HiAlertIRq are judged over a whole call: set where LoAlert or HiAlert was 0 before it and is 1 after it. What the FIFO
  * held in between counts for nothing, such as a byte that CalcCRC takes in the call that writes it.
  *
+ * Lost bytes. A byte that is offered to the FIFO while it holds 64 is lost, and FIFOOvfl is set. A write or a delivery answers how many were lost in
+ * it (mfrc531_lost_of). So its answer need not be 0 where it is not refused: compare mfrc531_refusal_of(answer) with MFRC531_NOT_REFUSED, not the
+ * answer itself. mfrc531_lost_sum answers how many were lost since the latest flush or start.
+ *
  * Where the bench and the chip differ, and why, is docs/MANUAL.md, section 14 "Differences from the chip"; calls and time are its section 9.
  *
  * C11 or C++11, or later; x86-64, System V calling convention. Nothing here allocates, blocks, prints or keeps state outside the chip. Two threads
@@ -41,13 +45,13 @@
 #include <stdint.h>
 
 /* The version of this header and of the library. MINOR rises by one with each request that lands (docs/landings); 11 is the state with R-2,
- * R-6 and R-11, 12 brought R-4, 13 R-3, 14 R-10. With a new MINOR compile firmware again, as the chip's layout may have changed. PATCH rises with
- * any other change. MAJOR is 0 until the layout is final; from then on it rises when a name, the layout or an answer changes, so that firmware has
- * to be looked at. */
+ * R-6 and R-11, 12 brought R-4, 13 R-3, 14 R-10, 15 R-9. With a new MINOR compile firmware again, as the chip's layout may have changed. PATCH rises
+ * with any other change. MAJOR is 0 until the layout is final; from then on it rises when a name, the layout or an answer changes, so that firmware
+ * has to be looked at. */
 #define MFRC531_VERSION_MAJOR 0
-#define MFRC531_VERSION_MINOR 14
+#define MFRC531_VERSION_MINOR 15
 #define MFRC531_VERSION_PATCH 0
-#define MFRC531_VERSION_STRING "0.14.0"
+#define MFRC531_VERSION_STRING "0.15.0"
 
 /* Sizes in bytes, and clocks of 13.56 MHz. */
 #define MFRC531_FIFO_SIZE 64
@@ -66,8 +70,9 @@ extern "C" {
 
 /* ---- What a call answers ------------------------------------------------------------------------------------------------------------- */
 
-/* One number: bits 7-0 the refusal, 0 for none; bits 15-8 the byte read or the number of bytes written; bits 23-16 the last bits of a frame.
- * Bits 31-24 are 0. A refused call answers its refusal alone, and leaves chip and buffers as they were. */
+/* One number: bits 7-0 the refusal, 0 for none; bits 15-8 the byte read or the number of bytes written; bits 23-16 the last bits of a frame; bits
+ * 31-24 the number of bytes lost in a write or a delivery. In the answer of mfrc531_lost_sum bits 23-8 are the sum. What a call does not answer is 0.
+ * A refused call answers its refusal alone, and leaves chip and buffers as they were. */
 typedef uint32_t mfrc531_answer;
 
 /* Each number goes by one name; mfrc531_refusal_text has it in words. Which call gives which, and in which order they are judged, stands with
@@ -91,10 +96,12 @@ enum mfrc531_refusal {
     MFRC531_IMAGE_OF_NO_EDITION = 22
 };
 
-/* The refusal of an answer; the byte or count; the last bits. */
+/* The refusal of an answer; the byte or count; the last bits; the number of bytes lost in the call; the sum of mfrc531_lost_sum. */
 static inline uint8_t mfrc531_refusal_of(mfrc531_answer answer) { return answer & 0xFFu; }
 static inline uint8_t mfrc531_value_of(mfrc531_answer answer) { return answer >> 8 & 0xFFu; }
 static inline uint8_t mfrc531_last_bits_of(mfrc531_answer answer) { return answer >> 16 & 0xFFu; }
+static inline uint8_t mfrc531_lost_of(mfrc531_answer answer) { return answer >> 24 & 0xFFu; }
+static inline uint16_t mfrc531_lost_sum_of(mfrc531_answer answer) { return answer >> 8 & 0xFFFFu; }
 
 /* One line of text for a refusal's number, without a full stop and a line's end; any number has one, 0 and numbers that are no refusal too. */
 static inline const char *mfrc531_refusal_text(unsigned number)
@@ -375,7 +382,8 @@ typedef struct {
     uint32_t programming_left; /* clocks until WriteE2's programming ends; 0 where none runs */
     uint16_t crc_register;     /* the CRC register, before CRC3309 complements it */
     uint16_t next_address;     /* where WriteE2's next byte goes */
-    uint16_t reserved_numbers[4];
+    uint16_t lost_sum;         /* what mfrc531_lost_sum answers; no value is malformed */
+    uint16_t reserved_numbers[3];
     uint8_t page;                  /* Page */
     uint8_t control;               /* Control, of which bits 5 and 4 are kept */
     uint8_t key_loaded;            /* 1 where the key buffer holds a key, else 0 */
@@ -411,7 +419,8 @@ MFRC531_AT(timer_phase, 0);
 MFRC531_AT(programming_left, 4);
 MFRC531_AT(crc_register, 8);
 MFRC531_AT(next_address, 10);
-MFRC531_AT(reserved_numbers, 12);
+MFRC531_AT(lost_sum, 12);
+MFRC531_AT(reserved_numbers, 14);
 MFRC531_AT(page, 20);
 MFRC531_AT(control, 21);
 MFRC531_AT(key_loaded, 22);
@@ -448,7 +457,8 @@ mfrc531_answer mfrc531_start(mfrc531_chip *chip, const uint8_t *image, size_t le
  * Refuses: 7 the chip is malformed; 1 the address is above 63. */
 mfrc531_answer mfrc531_read(mfrc531_chip *chip, uint8_t address);
 
-/* A host write of a byte. The active command then does what it can with the bytes that wait.
+/* A host write of a byte. The active command then does what it can with the bytes that wait. Lost: up to 125 where a write of Command (01h) makes
+ * ReadE2 run, up to 64 where a write of its last argument to FIFOData (02h) does; by any other write of FIFOData up to 1, by any other write 0.
  * Refuses: 7 the chip is malformed; 1 the address is above 63. */
 mfrc531_answer mfrc531_write(mfrc531_chip *chip, uint8_t address, uint8_t byte);
 
@@ -462,11 +472,20 @@ mfrc531_answer mfrc531_advance(mfrc531_chip *chip, uint32_t clocks);
  * Refuses: 7 the chip is malformed; 6 the buffer is under 66 bytes; 4 the chip does not send, or holds no byte. */
 mfrc531_answer mfrc531_take(mfrc531_chip *chip, uint8_t *buffer, size_t length);
 
-/* A delivery of a frame that the chip receives: its bytes, a parity value (0 or 1) for each, and how many bits of the last byte count (0: all).
+/* A delivery of a frame that the chip receives: its bytes, a parity value (0 or 1) for each, and how many bits of the last byte count (0: all). Lost:
+ * up to 64. A checksum that the chip drops is not offered to the FIFO, so it is not lost.
  * Refuses: 7 the chip is malformed; 5 no or over 64 bytes, another number of parity values, a parity value above 1, or last bits above 7;
  * 4 the chip does not receive. */
 mfrc531_answer mfrc531_deliver(mfrc531_chip *chip, const uint8_t *bytes, size_t length, const uint8_t *parities, size_t parity_length,
                                uint8_t last_bits);
+
+/* ---- The sum of lost bytes ----------------------------------------------------------------------------------------------------------- */
+
+/* The number of bytes lost since the latest flush (FlushFIFO, Control bit 0) or start, in bits 23-8: 65,535 stands for that many or more. Nothing
+ * else sets it to 0, neither a take nor reads. FIFOOvfl is set exactly where it is above 0, but in a chip that you wrote into. The call changes
+ * nothing, and takes no time.
+ * Refuses: 7 the chip is malformed. */
+mfrc531_answer mfrc531_lost_sum(const mfrc531_chip *chip);
 
 /* ---- Profiles ------------------------------------------------------------------------------------------------------------------------ */
 

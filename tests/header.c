@@ -71,6 +71,7 @@ static void malformed(void)
     CHECK(mfrc531_advance(&chip, 1) == MFRC531_CHIP_MALFORMED);
     CHECK(mfrc531_take(&chip, buffer, sizeof buffer) == MFRC531_CHIP_MALFORMED);
     CHECK(mfrc531_deliver(&chip, byte, sizeof byte, parity, sizeof parity, 0) == MFRC531_CHIP_MALFORMED);
+    CHECK(mfrc531_lost_sum(&chip) == MFRC531_CHIP_MALFORMED);
     CHECK(memcmp(&chip, &before, sizeof chip) == 0 && memcmp(buffer, buffer_before, sizeof buffer) == 0);
 }
 
@@ -200,6 +201,91 @@ static void alerts(void)
     CHECK((get(MFRC531_REG_INTERRUPT_RQ) & MFRC531_LO_ALERT_IRQ) != 0);
 }
 
+/* The parts of an answer do not overlap, but for the sum of mfrc531_lost_sum. */
+static void answer_parts(void)
+{
+    CHECK(mfrc531_refusal_of(0x7D030142) == 0x42 && mfrc531_value_of(0x7D030142) == 0x01 && mfrc531_last_bits_of(0x7D030142) == 0x03);
+    CHECK(mfrc531_lost_of(0x7D030142) == 125 && mfrc531_lost_sum_of(0x7D030142) == 0x0301);
+    CHECK(mfrc531_lost_of(0xFF000000) == 255 && mfrc531_lost_sum_of(0x00FFFF00) == 65535);
+}
+
+/* A chip with linear addresses and 64 bytes held: ReadE2's arguments, for so many bytes from 000h on, and 61 others. */
+static void fill(uint8_t count)
+{
+    start();
+    put(MFRC531_REG_PAGE, 0x00);
+    put(MFRC531_REG_FIFO_DATA, 0x00);
+    put(MFRC531_REG_FIFO_DATA, 0x00);
+    put(MFRC531_REG_FIFO_DATA, count);
+    for (int i = 3; i < MFRC531_FIFO_SIZE; i++)
+        put(MFRC531_REG_FIFO_DATA, 0x55);
+}
+
+/* The latest call was accepted, lost so many bytes and answers nothing else; the sum is then so many, and FIFOOvfl is set where it is above 0. */
+static void lost(mfrc531_answer answer, uint32_t in_call, uint32_t sum)
+{
+    mfrc531_chip before = chip;
+    CHECK(answer == in_call << 24 && mfrc531_lost_of(answer) == in_call);
+    CHECK(mfrc531_lost_sum(&chip) == sum << 8 && mfrc531_lost_sum_of(mfrc531_lost_sum(&chip)) == sum);
+    CHECK(chip.lost_sum == sum && memcmp(&chip, &before, sizeof chip) == 0);
+    CHECK(((get(MFRC531_REG_ERROR_FLAG) & MFRC531_FIFO_OVFL) != 0) == (sum > 0));
+}
+
+/* Bytes offered to the FIFO while it holds 64: in the answer of the call, and in the sum until a flush or a start. */
+static void lost_bytes(void)
+{
+    static const uint8_t card[MFRC531_FIFO_SIZE] = {0x12, 0x34, 0x26, 0xCF}, parities[MFRC531_FIFO_SIZE] = {1, 0, 0, 1};
+    uint8_t frame[MFRC531_TAKE_BUFFER_SIZE];
+    fill(128);
+    lost(mfrc531_write(&chip, MFRC531_REG_FIFO_LEVEL, 8), 0, 0);
+    lost(mfrc531_write(&chip, MFRC531_REG_FIFO_DATA, 0xAA), 1, 1);
+    lost(mfrc531_write(&chip, MFRC531_REG_COMMAND, MFRC531_CMD_READ_E2), 125, 126); /* 61 bytes stay: 3 of 128 fit */
+    CHECK(get(MFRC531_REG_FIFO_LENGTH) == MFRC531_FIFO_SIZE);
+    lost(mfrc531_write(&chip, MFRC531_REG_COMMAND, MFRC531_CMD_RECEIVE), 0, 126);
+    lost(mfrc531_deliver(&chip, card, sizeof card, parities, sizeof parities, 0), 64, 190);
+    put(MFRC531_REG_CHANNEL_REDUNDANCY, MFRC531_RX_CRC_EN);
+    put(MFRC531_REG_COMMAND, MFRC531_CMD_RECEIVE);
+    CHECK(get(MFRC531_REG_FIFO_DATA) == 0x55);
+    lost(mfrc531_deliver(&chip, card, 4, parities, 4, 0), 1, 191); /* one fits, and the checksum is dropped, not lost */
+
+    /* What does not set it to 0: refused calls, Command, a take, reads, also of an empty FIFO, clocks. */
+    CHECK(mfrc531_deliver(&chip, card, 4, parities, 4, 0) == MFRC531_NOT_SENDING_OR_RECEIVING);
+    CHECK(mfrc531_write(&chip, 64, 0xAA) == MFRC531_ADDRESS_ABOVE_63);
+    CHECK(mfrc531_start(&chip, card, sizeof card) == MFRC531_IMAGE_NOT_512_BYTES);
+    put(MFRC531_REG_COMMAND, MFRC531_CMD_TRANSMIT);
+    CHECK(mfrc531_take(&chip, frame, sizeof frame) == MFRC531_FIFO_SIZE << 8);
+    CHECK(get(MFRC531_REG_FIFO_LENGTH) == 0 && get(MFRC531_REG_FIFO_DATA) == 0x00);
+    lost(mfrc531_advance(&chip, MFRC531_MOST_CLOCKS), 0, 191);
+
+    /* A flush; ReadE2 by its last argument, into an empty FIFO; a start. */
+    lost(mfrc531_write(&chip, MFRC531_REG_CONTROL, MFRC531_FLUSH_FIFO), 0, 0);
+    put(MFRC531_REG_COMMAND, MFRC531_CMD_READ_E2);
+    put(MFRC531_REG_FIFO_DATA, 0x00);
+    put(MFRC531_REG_FIFO_DATA, 0x00);
+    lost(mfrc531_write(&chip, MFRC531_REG_FIFO_DATA, 128), 64, 64);
+    start();
+    put(MFRC531_REG_PAGE, 0x00);
+    lost(MFRC531_NOT_REFUSED, 0, 0);
+
+    /* ReadE2 that loses nothing: no bytes, as many as fit, and with AccessErr. */
+    static const uint8_t counts[] = {0, 3, 129};
+    for (size_t i = 0; i < sizeof counts; i++) {
+        fill(counts[i]);
+        lost(mfrc531_write(&chip, MFRC531_REG_COMMAND, MFRC531_CMD_READ_E2), 0, 0);
+    }
+
+    /* The sum stays at 65,535, and the call's number is whole. A sum is well formed beside a clear FIFOOvfl, and 0 beside a set one. */
+    static const uint32_t sums[] = {65409, 65410, 65411, 65535};
+    for (size_t i = 0; i < sizeof sums / sizeof *sums; i++) {
+        fill(128);
+        chip.lost_sum = sums[i];
+        CHECK(mfrc531_lost_sum(&chip) == sums[i] << 8);
+        lost(mfrc531_write(&chip, MFRC531_REG_COMMAND, MFRC531_CMD_READ_E2), 125, i == 0 ? 65534 : 65535);
+    }
+    chip.lost_sum = 0;
+    CHECK(mfrc531_lost_sum(&chip) == 0 && get(MFRC531_REG_ERROR_FLAG) & MFRC531_FIFO_OVFL);
+}
+
 /* Codes that the bench does not execute. */
 static void unknown_codes(void)
 {
@@ -305,6 +391,8 @@ int main(void)
     time_passes();
     frames();
     alerts();
+    answer_parts();
+    lost_bytes();
     unknown_codes();
     refusals();
     profiles();

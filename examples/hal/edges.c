@@ -97,6 +97,16 @@ static void note_timer(void *context, const struct hal *from, enum hal_event eve
     ran = from->chip.timer_running;
 }
 
+/* The sum of lost bytes when the latest answer was received. */
+static uint16_t lost_by_then;
+
+static void note_lost(void *context, const struct hal *from, enum hal_event event, const uint8_t *bytes, size_t count, uint8_t last_bits)
+{
+    (void)context, (void)bytes, (void)count, (void)last_bits;
+    if (event == HAL_ANSWER_RECEIVED)
+        lost_by_then = hal_lost_sum(from);
+}
+
 /* ---- Cards that do wrong, or nothing ------------------------------------------------------------------------------------------------- */
 
 static void right_answer(void)
@@ -365,6 +375,35 @@ static void two_commands(void)
     CHECK(hal.answers_missed == 1 && ReadIO(MFRC531_REG_FIFO_LENGTH) == 0);
 }
 
+/* A FIFO that is filled while the answer is under way: 2 of 66 writes are lost, 125 of the 128 bytes that ReadE2 reads behind 61 others, and the
+ * answer's two. The driver's flush sets the sum to 0. */
+static void full_fifo(void)
+{
+    begin();
+    hal.trace = note_lost;
+    answers(two_bytes, 2);
+    script.answer.clocks = 100000;
+    WriteIO(MFRC531_REG_FIFO_DATA, 0x30);
+    WriteIO(MFRC531_REG_COMMAND, MFRC531_CMD_TRANSMIT);
+    hal_delay(0);
+    for (unsigned i = 0; i < 66; i++) {
+        CHECK(hal_lost_sum(&hal) == (i > 64 ? 1 : 0));
+        WriteIO(MFRC531_REG_FIFO_DATA, i == 2 ? 0x80 : 0x00); /* ReadE2's arguments: from 000h on, 128 bytes */
+    }
+    uint64_t before = hal.clocks;
+    CHECK(hal_lost_sum(&hal) == 2 && hal.clocks == before);
+    mfrc531_chip copy = hal.chip; /* for the number that the call itself answers */
+    CHECK(mfrc531_lost_of(mfrc531_write(&copy, MFRC531_REG_COMMAND, MFRC531_CMD_READ_E2)) == 125);
+    WriteIO(MFRC531_REG_COMMAND, MFRC531_CMD_READ_E2);
+    CHECK(hal_lost_sum(&hal) == 127);
+    WriteIO(MFRC531_REG_COMMAND, MFRC531_CMD_RECEIVE);
+    hal_delay(10000);
+    CHECK(lost_by_then == 129 && hal.answers_missed == 0 && ReadIO(MFRC531_REG_ERROR_FLAG) & MFRC531_FIFO_OVFL);
+    script.answer.clocks = 0;
+    CHECK(exchanged(5000) == DRIVER_OK && exchange.answer_count == 2);
+    CHECK(lost_by_then == 0 && hal_lost_sum(&hal) == 0);
+}
+
 /* A Command written before any poll ends the sending. */
 static void taken_back(void)
 {
@@ -511,8 +550,10 @@ static void refusals_by_hook(void)
     CHECK(exchanged(5000) == DRIVER_TIMEOUT);
     CHECK(met.count == 7 && met.refusal == MFRC531_FRAME_MALFORMED && met.argument == 65);
     hal.chip.stage = 0x3E; /* no chip's state */
+    CHECK(hal_lost_sum(&hal) == 0);
+    CHECK(met.count == 8 && met.refusal == MFRC531_CHIP_MALFORMED && strcmp(met.call, "lost_sum") == 0);
     hal_irq_pin();
-    CHECK(met.count > 7 && met.refusal == MFRC531_CHIP_MALFORMED);
+    CHECK(met.count > 8 && met.refusal == MFRC531_CHIP_MALFORMED);
     unsigned before = met.count;
     CHECK(exchanged(5000) == DRIVER_STUCK);
     CHECK(met.count > before && met.refusal == MFRC531_CHIP_MALFORMED);
@@ -561,6 +602,7 @@ static const struct {
     {"by_pages", by_pages},
     {"command_first", command_first},
     {"two_commands", two_commands},
+    {"full_fifo", full_fifo},
     {"taken_back", taken_back},
     {"pin", pin},
     {"delays", delays},

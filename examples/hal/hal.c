@@ -245,6 +245,12 @@ void hal_start(struct hal *hal, const uint8_t *image, size_t length)
         miss_answer(hal);
 }
 
+uint16_t hal_lost_sum(const struct hal *hal)
+{
+    mfrc531_answer answer = mfrc531_lost_sum(&hal->chip);
+    return accepted(hal, "lost_sum", 0, answer) ? mfrc531_lost_sum_of(answer) : 0;
+}
+
 void hal_reset(struct hal *hal)
 {
     uint8_t image[sizeof hal->chip.eeprom]; /* memory lent to one call may not overlap */

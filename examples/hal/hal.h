@@ -20,7 +20,9 @@
  * or a delay if that is where they end. If the chip does not receive at that clock (Receive, or Transceive after its frame), or another frame
  * left meanwhile, the answer is missed, as a real chip would miss it: it is counted in answers_missed and traced.
  *
- * Refusals. No answer of the library is dropped: a refused call goes to the hook `refused`, or, where there is none, is written to standard
+ * Lost bytes. How many bytes the FIFO had no room for is not passed on by WriteIO, which returns nothing; hal_lost_sum has their sum.
+ *
+ * Refusals. No refusal of the library is dropped: a refused call goes to the hook `refused`, or, where there is none, is written to standard
  * error with its reason, and the program aborts.
  */
 #ifndef HAL_H
@@ -122,6 +124,10 @@ void hal_start(struct hal *hal, const uint8_t *image, size_t length);
 
 /* A pulse on RSTPD: the chip starts from its own EEPROM. */
 void hal_reset(struct hal *hal);
+
+/* The sum of lost bytes, as mfrc531_lost_sum has it; 0 where that is refused. Passes no time, and is no poll. A flush sets the sum to 0: with firmware
+ * that flushes at the end of each exchange, ask before it does, such as in the hook `trace` at HAL_ANSWER_RECEIVED. */
+uint16_t hal_lost_sum(const struct hal *hal);
 
 /* Which one ReadIO, WriteIO, hal_irq_pin and hal_delay speak to, in this thread. */
 void hal_use(struct hal *hal);

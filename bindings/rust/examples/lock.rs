@@ -3,7 +3,10 @@ use mfrc531::bits::interrupt_en;
 use mfrc531::{check_profile, shipped_image, Chip, Command, Edition, Refusal, Register, SHIPPED_PROFILE};
 
 fn send_bytes(chip: &mut Chip, bytes: &[u8]) -> Result<(), Refusal> {
-    bytes.iter().try_for_each(|&byte| chip.write(Register::FifoData, byte))
+    for &byte in bytes {
+        chip.write(Register::FifoData, byte)?;
+    }
+    Ok(())
 }
 
 /// One line about the chip, as a polling loop sees it.

@@ -86,7 +86,8 @@ pub struct Frame {
     pub last_bits: u8,
 }
 
-/// The number that the library answers: bits 7-0 the refusal, 0 for none; bits 15-8 the byte or count; bits 23-16 the last bits.
+/// The number that the library answers: bits 7-0 the refusal, 0 for none; bits 15-8 the byte or count; bits 23-16 the last bits; bits 31-24 how many
+/// bytes were lost in the call. `mfrc531_lost_sum` answers the sum in bits 23-8.
 pub(crate) struct Answer(pub u32);
 
 impl Answer {
@@ -105,6 +106,16 @@ impl Answer {
     pub fn frame(self) -> Result<Frame, Refusal> {
         let last_bits = (self.0 >> 16) as u8;
         self.value().map(|length| Frame { length: length.into(), last_bits })
+    }
+
+    pub fn lost(self) -> Result<u8, Refusal> {
+        let lost = (self.0 >> 24) as u8;
+        self.done().map(|()| lost)
+    }
+
+    pub fn lost_sum(self) -> Result<u16, Refusal> {
+        let sum = (self.0 >> 8) as u16;
+        self.done().map(|()| sum)
     }
 }
 
@@ -129,5 +140,9 @@ mod tests {
         assert_eq!(Answer(0x00_07_42_00).frame(), Ok(Frame { length: 0x42, last_bits: 7 }));
         assert_eq!(Answer(0x00_00_42_00).value(), Ok(0x42));
         assert_eq!(Answer(0x00_00_00_04).value(), Err(Refusal::NotSendingOrReceiving));
+        assert_eq!(Answer(0x7D_00_00_00).lost(), Ok(125));
+        assert_eq!(Answer(0x00_00_00_05).lost(), Err(Refusal::FrameMalformed));
+        assert_eq!(Answer(0x00_FF_FE_00).lost_sum(), Ok(0xFFFE));
+        assert_eq!(Answer(0x00_00_00_07).lost_sum(), Err(Refusal::ChipMalformed));
     }
 }

@@ -35,8 +35,10 @@ pub struct ChipMemory {
     pub crc_register: u16,
     /// Where WriteE2's next byte goes.
     pub next_address: u16,
+    /// What [`Chip::lost_sum`](crate::Chip::lost_sum) answers. No value is malformed.
+    pub lost_sum: u16,
     #[allow(missing_docs)]
-    pub reserved_numbers: [u16; 4],
+    pub reserved_numbers: [u16; 3],
     /// Page.
     pub page: u8,
     /// Control, of which bits 5 and 4 are kept.
@@ -93,7 +95,8 @@ impl ChipMemory {
             programming_left: 0,
             crc_register: 0,
             next_address: 0,
-            reserved_numbers: [0; 4],
+            lost_sum: 0,
+            reserved_numbers: [0; 3],
             page: 0,
             control: 0,
             key_loaded: 0,
@@ -140,7 +143,7 @@ macro_rules! at {
 
 const _: () = {
     assert!(size_of::<ChipMemory>() == 676 && align_of::<ChipMemory>() == 4);
-    at!(timer_phase 0, programming_left 4, crc_register 8, next_address 10, reserved_numbers 12);
+    at!(timer_phase 0, programming_left 4, crc_register 8, next_address 10, lost_sum 12, reserved_numbers 14);
     at!(page 20, control 21, key_loaded 22, rx_last_bits 23, interrupt_en 24, crc_mode 25, interrupt_rq 26, error_flag 27);
     at!(timer_running 28, timer_prescaler 29, latched 30, edition 31, stage 32, fifo_read 33, fifo_write 34, timer_value 35);
     at!(bit_framing 36, reserved_17 37, registers 44, slots 76, latch 140, key 156, eeprom 162);

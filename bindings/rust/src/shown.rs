@@ -106,6 +106,7 @@ impl fmt::Debug for Chip {
             0..=64 => shown.field("FIFO", &Digits(memory.held_bytes())),
             held => shown.field("FIFO", &format_args!("{held} bytes, malformed")),
         };
+        shown.field("Lost", &memory.lost_sum);
         shown.field("InterruptEn", &Flags(memory.interrupt_en, &REQUESTS));
         shown.field("InterruptRq", &Flags(memory.interrupt_rq, &REQUESTS));
         shown.field("ErrorFlag", &Flags(memory.error_flag, &ERRORS));
@@ -130,8 +131,8 @@ mod tests {
     #[test]
     fn a_chip_shows_what_firmware_looks_at() -> Result<(), Refusal> {
         let mut chip = Chip::start(&shipped_image())?;
-        let started = "Chip { Edition: MFRC531, Page: 80, Command: Idle, FIFO: [], InterruptEn: [], InterruptRq: [], \
-                       ErrorFlag: [KeyErr], Timer: 0, stands, CRC: 0000, Key: none, BitFraming: 00, \
+        let started = "Chip { Edition: MFRC531, Page: 80, Command: Idle, FIFO: [], Lost: 0, InterruptEn: [], \
+                       InterruptRq: [], ErrorFlag: [KeyErr], Timer: 0, stands, CRC: 0000, Key: none, BitFraming: 00, \
                        Registers10hTo2Fh: [00 58 3F 3F 19 13 3F 3B 00 73 08 AD FF 1E 41 00 \
                        00 06 03 63 63 00 00 00 00 08 07 06 0A 02 00 00], .. }";
         assert_eq!(format!("{chip:?}"), started);
@@ -140,7 +141,7 @@ mod tests {
         chip.write(Register::Command, Command::Transceive as u8)?;
         chip.write(Register::FifoData, 0x26)?;
         let shown = format!("{chip:?}");
-        assert!(shown.contains("Command: Transceive, sends, FIFO: [26], InterruptEn: [Tx Rx Idle]"), "{shown}");
+        assert!(shown.contains("Command: Transceive, sends, FIFO: [26], Lost: 0, InterruptEn: [Tx Rx Idle]"), "{shown}");
         chip.take(&mut [0; 66])?;
         let shown = format!("{chip:?}");
         assert!(shown.contains("Command: Transceive, receives, FIFO: [], "), "{shown}");
@@ -162,9 +163,10 @@ mod tests {
         memory.fifo_write = 65;
         memory.error_flag = 0xFF;
         memory.edition = 2;
+        memory.lost_sum = 65535;
         let shown = format!("{:?}", Chip::from_memory(memory));
         assert!(shown.starts_with("Chip { Edition: number 2 with [00 00 00 00], malformed, Page: 00, "), "{shown}");
-        assert!(shown.contains("Command: stage 3E, malformed, FIFO: 65 bytes, malformed, "), "{shown}");
+        assert!(shown.contains("Command: stage 3E, malformed, FIFO: 65 bytes, malformed, Lost: 65535, "), "{shown}");
         assert!(shown.contains("ErrorFlag: [KeyErr AccessErr FIFOOvfl CRCErr ParityErr 85]"), "{shown}");
         for stage in 0..=255u8 {
             (memory.stage, memory.fifo_write, memory.fifo_read) = (stage, stage, stage.wrapping_mul(7));

@@ -30,13 +30,15 @@ take [LENGTH [FILL]]        takes the frame that the chip sends, into a buffer o
 deliver BYTES.. [parity VALUES..] [bits N]
                             a frame that the chip receives; parity: 0 or 1 for each byte, without it those that ChannelRedundancy asks;
                             bits: how many of the last byte count, 0 for all. The lists' form, BYTES PARITIES N, is taken too
-status                      the registers of pages 0 and 1, in words; changes nothing
+lost                        how many bytes were lost since the latest flush or start; changes nothing
+status                      the registers of pages 0 and 1, in words, the FIFO and the bytes lost; changes nothing
 history                     the calls so far, with their answers
 help, quit
 
 Addresses and bytes are in hexadecimal digits, all other numbers are decimal; '#' begins a comment.
 REGISTER is a host address, taken as it is (Page decides what it reaches), or a name. A name always reaches its register: while
 UsePageSelect is set and PageSelect selects another page, the shell first writes Page, and shows that write as a call of its own.
+A write or a delivery says how many bytes were lost in it, if any: those offered to the FIFO while it held 64.
 A refused call changes nothing and is no error of the input.";
 
 struct Bench<'a> {
@@ -189,7 +191,7 @@ impl Bench<'_> {
         let words: Vec<&str> = words.collect();
         match (verb.to_ascii_lowercase().as_str(), &words[..]) {
             ("start", [] | ["shipped"]) => self.start(None, None),
-            ("start", ["shipped" | "noise" | "keys", _, _, ..]) | ("memory" | "corrupt" | "mend", _) => {
+            ("start", ["shipped" | "noise" | "keys", _, _, ..]) | ("memory" | "corrupt" | "mend" | "repeat" | "end", _) => {
                 Err(format!("{} is for the lists of the differential test alone", quoted(line)).into())
             }
             ("start", [first, rest @ ..]) => {
@@ -207,6 +209,10 @@ impl Bench<'_> {
             ("take", [length]) => self.take(length, "00"),
             ("take", [length, fill]) => self.take(length, fill),
             ("deliver", [_, ..]) => self.deliver(&words),
+            ("lost", []) => {
+                self.output.line(&format!("lost: {} since the latest flush or start", lost_in_words(&self.chip)));
+                Ok(())
+            }
             ("status", []) => self.status(),
             ("history", []) => self.show_history(),
             ("help", []) => {
@@ -219,7 +225,7 @@ impl Bench<'_> {
             ("advance", _) => Err("advance takes one word: advance CLOCKS".to_string().into()),
             ("take", _) => Err("take takes at most two words: take [LENGTH [FILL]]".to_string().into()),
             ("deliver", _) => Err("deliver takes bytes: deliver BYTES.. [parity VALUES..] [bits N]".to_string().into()),
-            ("status" | "history" | "help" | "quit" | "exit", _) => Err(format!("{verb} takes no words").into()),
+            ("lost" | "status" | "history" | "help" | "quit" | "exit", _) => Err(format!("{verb} takes no words").into()),
             _ => Err(format!("{} is no verb; help lists them", quoted(verb)).into()),
         }
     }
@@ -320,11 +326,12 @@ impl Bench<'_> {
 
     fn host_write(&mut self, address: u8, byte: u8, remark: &str) -> Result<(), Stop> {
         let register = reached(self.chip.memory().page, address);
+        let asked = match register {
+            Some(register) => format!("{register} gets {byte:02X}h{}{remark}", behind_comma(&asked_in_words(register, byte))),
+            None => "no register is there".to_string(),
+        };
         self.call(&format!("write {address:02X} {byte:02X}"), |bench| {
-            Ok(bench.chip.write_at(address, byte).map(|()| match register {
-                Some(register) => format!("{register} gets {byte:02X}h{}{remark}", behind_comma(&asked_in_words(register, byte))),
-                None => "no register is there".to_string(),
-            }))
+            Ok(bench.chip.write_at(address, byte).map(|lost| asked + &lost_behind_comma(lost)))
         })
     }
 
@@ -392,7 +399,7 @@ impl Bench<'_> {
         let call = format!("deliver {bytes} parity{shown}{bits}");
         self.call(&call, |bench| {
             let delivered = bench.chip.deliver(&frame.bytes, &parities, frame.last_bits);
-            Ok(delivered.map(|()| format!("{} delivered{told}", counted(frame.bytes.len()))))
+            Ok(delivered.map(|lost| format!("{} delivered{told}{}", counted(frame.bytes.len()), lost_behind_comma(lost))))
         })
     }
 
@@ -405,6 +412,7 @@ impl Bench<'_> {
         }
         let held: Vec<u8> = memory.held_bytes().collect();
         self.output.line(format!("{:<16} {}", "FIFO", if held.is_empty() { "empty".to_string() } else { digits(&held) }).trim_end());
+        self.output.line(&format!("{:<16} {}", "lost", lost_in_words(&self.chip)));
         if memory.programming_left > 0 {
             self.output.line(&format!("{:<16} {} clocks more", "programming", memory.programming_left));
         }
@@ -439,6 +447,23 @@ fn behind_comma(words: &str) -> String {
         String::new()
     } else {
         format!(", {words}")
+    }
+}
+
+/// How many bytes a call has lost, behind a comma, if there are any.
+fn lost_behind_comma(lost: u8) -> String {
+    match lost {
+        0 => String::new(),
+        lost => format!(", lost {lost}"),
+    }
+}
+
+/// The sum of lost bytes, which goes no higher than 65,535.
+fn lost_in_words(chip: &Chip) -> String {
+    match chip.lost_sum() {
+        Ok(u16::MAX) => format!("{} or more", u16::MAX),
+        Ok(sum) => sum.to_string(),
+        Err(refusal) => refusal.to_string(),
     }
 }
 

@@ -10,11 +10,11 @@ use std::path::Path;
 /// What the waveform shows of a chip.
 #[derive(Clone, Copy, PartialEq, Eq)]
 struct Seen {
-    values: [u8; SIGNALS.len()],
+    values: [u16; SIGNALS.len()],
 }
 
 /// Name, number of bits, and identifier in the file.
-const SIGNALS: [(&str, usize, char); 7] = [
+const SIGNALS: [(&str, usize, char); 8] = [
     ("IRq", 1, 'i'),
     ("E2Ready", 1, 'e'),
     ("TRunning", 1, 't'),
@@ -22,6 +22,7 @@ const SIGNALS: [(&str, usize, char); 7] = [
     ("timer_value", 8, 'v'),
     ("command", 6, 'c'),
     ("ModemState", 3, 'm'),
+    ("lost_sum", 16, 'l'),
 ];
 
 impl Seen {
@@ -29,13 +30,14 @@ impl Seen {
         let memory = chip.memory();
         Seen {
             values: [
-                u8::from(memory.interrupt_en & memory.interrupt_rq & 0x3F != 0),
-                u8::from(memory.programming_left == 0),
-                u8::from(memory.timer_running != 0),
-                memory.held(),
-                memory.timer_value,
-                memory.stage & 0x3F,
-                modem_state(chip),
+                u16::from(memory.interrupt_en & memory.interrupt_rq & 0x3F != 0),
+                u16::from(memory.programming_left == 0),
+                u16::from(memory.timer_running != 0),
+                memory.held().into(),
+                memory.timer_value.into(),
+                (memory.stage & 0x3F).into(),
+                modem_state(chip).into(),
+                memory.lost_sum,
             ],
         }
     }
@@ -92,6 +94,7 @@ impl Waveform {
             "  The clock is 13.56 MHz, 73.746.. ns, which no time scale divides: clock n stands at n * 25000000 / 339 ps, rounded."
         )?;
         writeln!(file, "  Calls at one clock stand 1 ps apart, in their order. IRq, ModemState: of PrimaryStatus. held: bytes in the FIFO. command: the code in Command.")?;
+        writeln!(file, "  lost_sum: bytes lost since the latest flush or start, at most 65535.")?;
         writeln!(file, "$end")?;
         writeln!(file, "$timescale 1 ps $end")?;
         writeln!(file, "$scope module mfrc531 $end")?;

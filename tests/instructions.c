@@ -48,10 +48,17 @@ static void start_crc(void)
         put(MFRC531_REG_COMMAND, MFRC531_CMD_CALC_CRC);
 }
 
-static void feed_crc(void)
+/* Bytes that all go the same way: CalcCRC takes them, or a full FIFO loses them. */
+static void write_bytes(void)
 {
     for (int i = 0; i < 1000; i++)
         put(MFRC531_REG_FIFO_DATA, (uint8_t)i);
+}
+
+static void ask_lost_sum(void)
+{
+    for (int i = 0; i < 1000; i++)
+        done(mfrc531_lost_sum(&chip));
 }
 
 static void read_registers(void)
@@ -158,6 +165,12 @@ static void nothing(void) {}
 static void begin_crc(void) { put(MFRC531_REG_COMMAND, MFRC531_CMD_CALC_CRC); }
 static void receive(void) { put(MFRC531_REG_COMMAND, MFRC531_CMD_RECEIVE); }
 
+static void fill_up(void)
+{
+    for (int i = 0; i < MFRC531_FIFO_SIZE; i++)
+        put(MFRC531_REG_FIFO_DATA, 0x55);
+}
+
 static void run_timer(void)
 {
     put(MFRC531_REG_TIMER_RELOAD, 255);
@@ -178,8 +191,10 @@ static const struct { const char *kind; void (*prepare)(void), (*round)(void); }
     {"poll", nothing, poll_status},
     {"poll-receiving", receive, poll_status},
     {"fifo-write", nothing, fill_fifo},
+    {"fifo-full", fill_up, write_bytes},
+    {"lost-sum", fill_up, ask_lost_sum},
     {"crc-start", nothing, start_crc},
-    {"crc-byte", begin_crc, feed_crc},
+    {"crc-byte", begin_crc, write_bytes},
     {"register-read", nothing, read_registers},
     {"register-write", nothing, write_registers},
     {"advance", run_timer, pass_clocks},

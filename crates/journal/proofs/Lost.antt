@@ -14,7 +14,7 @@ use Rattle.machine.specs.State.{Machine, Command, Idle, WriteE2, ReadE2, LoadCo
 use Rattle.machine.specs.Fifo.{oneLost, offered, offeredAll, lostAt, lostOf, flushed, restOf, alerted}
 use Rattle.machine.specs.Memory.{addressOf, bytesFrom}
 use Rattle.machine.specs.Timer.{TStopRx, timerStarted, timerStopped, timerClock}
-use Rattle.machine.specs.Commands.{codeOf, programs, clearedErrors, commandWritten, enough, argument, taken, ended, raisedTx, raisedRx, withAccessErr, latched, readable, readBytes, readFrom, configuredFrom, keyFrom, steppedAs, stepped, settled, lostAs, lostStepping, lostSettling}
+use Rattle.machine.specs.Commands.{codeOf, programs, clearedErrors, commandWritten, enough, argument, taken, ended, raisedTx, raisedRx, withAccessErr, readable, readBytes, readFrom, configuredFrom, keyFrom, steppedAs, stepped, settled, lostAs, lostStepping, lostSettling}
 use Rattle.machine.specs.Frames.{sending, sent, txBegun, txEnded, passed, crcFails, parityFails, withFrameErrors, received, lostReceiving}
 use Rattle.machine.specs.Registers.{mapped, controlWritten, registerWritten, lostAtRegister}
 use Rattle.machine.specs.Refusals.{Call, start, hostRead, hostWrite, advance, takeFrame, deliver, refusal}
@@ -22,7 +22,7 @@ use Rattle.machine.specs.Events as event
 use Rattle.machine.specs.Events.{Answer, Outcome, refused, done, lost, byte, frame, accepted, perform, bufferOf, started, written, lostWriting, afterRead, batchStored, programmed, commandClocked, clock, clocks, advanced, delivered}
 use Rattle.machine.proofs.Cases.{either, Kind, still, under, kind, not-programming}
 use Rattle.machine.proofs.Clock.{timer-any, timer-command, plain-clocked}
-use Rattle.machine.proofs.Lost.{lost-by-held}
+use Rattle.machine.proofs.Lost.{lost-by-held, other-loses-none}
 use Rattle.machine.proofs.Performing.{as-accepted}
 use Rattle.journal.specs.Entries as e
 use Rattle.journal.specs.Entries.{Entry, Destination, bytesAway, awayAfter, awayFrom, collect}
@@ -210,17 +210,6 @@ register-loses r v m j same = go (eqb r 0x02) refl (eqb r 0x09) refl
         (either (Keeps m) (eqb r 0x0F) _ _ refl
         (either (Keeps m) (leb 0x10 r && ltb r 0x30) _ _ refl refl)))))))
 
--- At the end of a programming bytes are latched, or the command ends, or it waits: none of these offers a byte.
-none-settling : (a : ℕ) (bs : List ℕ) (m : Machine) → lostSettling (batchStored a bs m) ≡ 0
-unfolding lostSettling lostStepping stepped
-none-settling a bs m =
-    let at = (a + length bs) % 0x200 in
-    let x = batchStored a bs m in
-    either None (enough 1 x) (latched at x) x (either None (ltb at 0x10) (ended (withAccessErr x)) _ refl refl) refl
-  where
-    None : Machine → Type 0
-    None y = 0 + lostStepping y ≡ 0
-
 -- How many bytes an answer says are lost; where it does not say it, 0.
 abbrev pub lostIn : Answer → ℕ
 lostIn (refused n) = 0
@@ -320,7 +309,7 @@ module _ (image : List ℕ) where
       go true = loses-none (nothing j) refl
       go false =
           loses-as refl refl
-          (subst (λ (n : ℕ). Loses (batchStored a bs m) j n (settled (batchStored a bs m)) (enterSettled (batchStored a bs m) j)) (none-settling a bs m)
+          (subst (λ (n : ℕ). Loses (batchStored a bs m) j n (settled (batchStored a bs m)) (enterSettled (batchStored a bs m) j)) (other-loses-none (batchStored a bs m) refl)
           (settle-loses (batchStored a bs m) j (stored-agrees image a left bs m j is agrees)))
 
   -- One clock of the active command loses none.

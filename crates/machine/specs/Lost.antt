@@ -1,14 +1,13 @@
 -- Manual 3.4: how many bytes are lost, by calls on a chip that was started from the shipped image, and of any machine.
 -- Assumes nothing.
 use Prim.Native.Nat.{ℕ, _+_, _-_, _≤_, min}
-use mathlib.Core.Bool.{Bool, false}
 use mathlib.Core.List.{List, [], _∷_, _++_}
 use mathlib.Core.Path.{_≡_}
 use lib.ListN.{length, replicate}
 use Rattle.machine.specs.State.{Machine, withLostSum}
 use Rattle.machine.specs.Fifo.{offeredAll, lostOf}
-use Rattle.machine.specs.Refusals.{Call, start, hostRead, hostWrite, advance, takeFrame, deliver, refusal}
-use Rattle.machine.specs.Events.{Answer, lost, perform, afterCalls}
+use Rattle.machine.specs.Refusals.{Call, start, hostRead, hostWrite, takeFrame, deliver}
+use Rattle.machine.specs.Events.{Answer, lost, perform}
 use Rattle.machine.specs.Numbers.{afterStart, offers}
 use Rattle.profile.specs.Shipped.{shippedImage}
 
@@ -36,11 +35,10 @@ fullForReceiving = hostWrite 0x22 0x08 ∷ (offers 63 ++ (hostWrite 0x01 0x16 �
 abbrev pub fiveBytes : Call
 fiveBytes = deliver (replicate 5 0x00) (replicate 5 0) 0
 
--- One byte too many, and then a call.
+-- One byte too many, and then calls.
 abbrev pub overflowedBy : List Call → List Call
 overflowedBy calls = offers 65 ++ calls
 
--- A call that sets the sum to 0: a start that is not refused, and FlushFIFO, bit 0 of Control.
 pub record LostBytes : Type 0 where
   -- the 64th byte is held, the 65th lost
   pub byte-64 : answered (offers 63) (hostWrite 0x02 0x00) ≡ lost 0

@@ -41,14 +41,8 @@ numbersStateRegistersSlots numbers state registers slots c = withNumbers numbers
 abbrev pub clocksStateSlotsKey : List ℕ → List ℕ → List ℕ → List ℕ → Chip → Chip
 clocksStateSlotsKey clocks state slots key c = withClocks clocks (withState state (withSlots slots (withKey key c)))
 
-abbrev pub clocksStateSlotsEeprom : List ℕ → List ℕ → List ℕ → List ℕ → Chip → Chip
-clocksStateSlotsEeprom clocks state slots eeprom c = withClocks clocks (withState state (withSlots slots (withEeprom eeprom c)))
-
 abbrev pub clocksStateSlotsKeyEeprom : List ℕ → List ℕ → List ℕ → List ℕ → List ℕ → Chip → Chip
 clocksStateSlotsKeyEeprom clocks state slots key eeprom c = withClocks clocks (withState state (withSlots slots (withKey key (withEeprom eeprom c))))
-
-abbrev pub clocksStateRegistersSlots : List ℕ → List ℕ → List ℕ → List ℕ → Chip → Chip
-clocksStateRegistersSlots clocks state registers slots c = withClocks clocks (withState state (withRegisters registers (withSlots slots c)))
 
 abbrev pub clocksStateRegistersSlotsEeprom : List ℕ → List ℕ → List ℕ → List ℕ → List ℕ → Chip → Chip
 clocksStateRegistersSlotsEeprom clocks state registers slots eeprom c = withClocks clocks (withState state (withRegisters registers (withSlots slots (withEeprom eeprom c))))

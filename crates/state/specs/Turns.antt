@@ -40,6 +40,7 @@ TurnsAll f before after = Sizes before → Turned f before after
 abbrev pub TurnsLosing : (Machine → Machine) → (Machine → ℕ) → (Chip → Chip) → (Chip → Chip) → ℕ → Type 0
 TurnsLosing f lost before after r = (c : Chip) → Sizes (before c) → Turned f (before c) (after c) × (r ≡ lost (view (before c)))
 
+-- The same of a function that is lent all eight arrays.
 abbrev pub TurnsAllLosing : (Machine → Machine) → (Machine → ℕ) → Chip → Chip → ℕ → Type 0
 TurnsAllLosing f lost before after r = Sizes before → Turned f before after × (r ≡ lost (view before))
 

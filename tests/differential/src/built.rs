@@ -2,13 +2,15 @@
 //! `chip_memory::plain_of` has them; 7 goes before every other refusal, and a refused call leaves every byte of the chip. From well-formed
 //! ones calls are made on both chips. All of this for both editions.
 
+use crate::answer;
 use crate::call::{Call, Fill, Image};
 use crate::chip_memory::{field, plain_of, Memory, ARRAYS, SIZE};
 use crate::library;
-use crate::plain::{Edition, PROGRAMMING_CLOCKS};
+use crate::plain::{error, Edition, PROGRAMMING_CLOCKS};
 use crate::random::Random;
-use crate::registers::PRIMARY_STATUS;
+use crate::registers::{COMMAND, CONTROL, FIFO_DATA, PRIMARY_STATUS};
 use crate::session::Session;
+use std::ops::AddAssign;
 
 /// The stages of commands.
 const LISTED: [u8; 12] = [0x00, 0x01, 0x41, 0x03, 0x07, 0x0B, 0x12, 0x19, 0x5A, 0x96, 0x5E, 0x9E];
@@ -23,6 +25,14 @@ const LEFT: [u32; 8] = [0, 1, 0x1_0000, PROGRAMMING_CLOCKS, PROGRAMMING_CLOCKS +
 
 const HELD: [u8; 11] = [0, 1, 2, 3, 11, 12, 63, 64, 65, 128, 255];
 
+/// Sums of lost bytes: none, one, as many below the limit as one call can lose, one below it, the limit.
+pub const SUMS: [u16; 5] = [0, 1, 65_410, 65_534, 65_535];
+
+/// Those, and another one.
+fn sums(random: &mut Random) -> impl Iterator<Item = u16> {
+    SUMS.into_iter().chain([random.number() as u16])
+}
+
 /// Latched counts: what fits a block, one more, and what eight bits or a remainder would take for such.
 fn latched() -> impl Iterator<Item = u8> {
     (0..=18).chain([31, 32, 33, 48, 128, 240, 255])
@@ -33,12 +43,15 @@ fn image(edition: Edition) -> Image {
     Image::whole(Fill::Keys, 7, edition)
 }
 
-/// A started chip's memory, with bytes in every array.
+/// A started chip's memory, with linear addresses and with bytes in every array.
 pub fn started(edition: Edition) -> Memory {
     let mut memory = Memory([0; SIZE]);
     let image = image(edition).bytes();
     // SAFETY: the chip is whole, and the image has its length.
-    unsafe { library::mfrc531_start(memory.as_mut_ptr(), image.as_ptr(), image.len()) };
+    unsafe {
+        library::mfrc531_start(memory.as_mut_ptr(), image.as_ptr(), image.len());
+        library::mfrc531_write(memory.as_mut_ptr(), 0x00, 0x00);
+    }
     (0..64).for_each(|place| memory.chip_mut().slots[place] = place as u8 | 0x80);
     (0..16).for_each(|place| memory.chip_mut().latch[place] = place as u8 | 0x40);
     memory
@@ -50,6 +63,15 @@ fn with(base: &Memory, stage: u8, latched: u8, left: u32, next: u16, read: u8, h
     let chip = memory.chip_mut();
     (chip.stage, chip.latched, chip.programming_left, chip.next_address) = (stage, latched, left, next);
     (chip.fifo_read, chip.fifo_write) = (read, read.wrapping_add(held));
+    memory
+}
+
+/// A sum of lost bytes, with FIFOOvfl clear or set.
+fn with_sum(base: &Memory, sum: u16, overflow: bool) -> Memory {
+    let mut memory = *base;
+    let chip = memory.chip_mut();
+    chip.lost_sum = sum;
+    chip.error_flag = chip.error_flag & !error::OVERFLOW | if overflow { error::OVERFLOW } else { 0 };
     memory
 }
 
@@ -131,18 +153,38 @@ fn with_edition(base: &Memory, number: u8, type_bytes: [u8; 4]) -> Memory {
 
 // ---- The judging -----------------------------------------------------------------------------------------------------------------------
 
+/// How many states were judged, and of those: how many have a sum of lost bytes above 0, and how many have FIFOOvfl clear beside one, or set beside 0.
+#[derive(Clone, Copy, Default)]
+pub struct States {
+    pub all: u64,
+    pub summed: u64,
+    pub apart: u64,
+}
+
+impl AddAssign for States {
+    fn add_assign(&mut self, other: Self) {
+        self.all += other.all;
+        self.summed += other.summed;
+        self.apart += other.apart;
+    }
+}
+
 /// Judges states one by one, and counts them.
 struct Judge<const FAULT: u8> {
     edition: Edition,
     base: Memory,
-    states: u64,
+    states: States,
 }
 
 impl<const FAULT: u8> Judge<FAULT> {
-    /// Calls that are refused on any chip, with 7 where it is malformed, and an advance by no clock, which leaves every chip; then a poll.
+    /// Calls that are refused on any chip, with 7 where it is malformed, an advance by no clock, which leaves every chip, and the call for the sum of
+    /// lost bytes; then a poll.
     fn judge(&mut self, mut memory: Memory) -> Result<(), String> {
-        self.states += 1;
+        let summed = memory.chip().lost_sum > 0;
+        let overflow = memory.chip().error_flag & error::OVERFLOW != 0;
+        self.states += States { all: 1, summed: u64::from(summed), apart: u64::from(summed != overflow) };
         let plain = plain_of::<FAULT>(memory.chip());
+        let sum = plain.as_ref().map_or(0, |plain| answer::of_sum(plain.lost_sum()));
         let before = memory;
         let chip = memory.as_mut_ptr();
         let mut buffer = [0; 65];
@@ -154,14 +196,16 @@ impl<const FAULT: u8> Judge<FAULT> {
                 ("an advance by 0", 0, library::mfrc531_advance(chip, 0)),
                 ("a take into 65 bytes", 6, library::mfrc531_take(chip, buffer.as_mut_ptr(), buffer.len())),
                 ("a delivery of nothing", 5, library::mfrc531_deliver(chip, buffer.as_ptr(), 0, buffer.as_ptr(), 0, 0)),
+                ("the call for the sum of lost bytes", sum, library::mfrc531_lost_sum(chip)),
             ]
         };
         if memory != before {
-            return Err(format!("a refused call, or an advance by 0, has changed the chip: {}", self.line(&before)));
+            let calls = "a refused call, an advance by 0 or the call for the sum of lost bytes";
+            return Err(format!("{calls} has changed the chip: {}", self.line(&before)));
         }
         let why = plain.as_ref().err().unwrap_or(&"well formed");
         let poll = match plain.clone() {
-            Ok(mut plain) => plain.read(PRIMARY_STATUS).map_or(1, |byte| u32::from(byte) << 8),
+            Ok(mut plain) => answer::of_byte(plain.read(PRIMARY_STATUS)),
             Err(_) => 7,
         };
         // SAFETY: the chip is whole.
@@ -175,22 +219,27 @@ impl<const FAULT: u8> Judge<FAULT> {
         Ok(())
     }
 
-    /// The state as two lines of a list.
+    /// The state as lines of a list.
     fn line(&self, memory: &Memory) -> String {
         let differs = |place: &usize| memory.0[*place] != self.base.0[*place];
         let edits = (0..SIZE).filter(differs).map(|place| (place as u16, memory.0[place])).collect();
-        format!("{}, {}", Call::Start { image: image(self.edition) }, Call::Corrupt { edits })
+        format!("{}, write 00 00, {}", Call::Start { image: image(self.edition) }, Call::Corrupt { edits })
     }
 }
 
 /// Refusal 7, on every state that is built, of both editions. Answers how many those were.
-pub fn judged<const FAULT: u8>(seed: u64) -> Result<u64, String> {
-    Ok(judged_of::<FAULT>(Edition::Mfrc531, seed)? + judged_of::<FAULT>(Edition::MfRc530, seed)?)
+pub fn judged<const FAULT: u8>(seed: u64) -> Result<States, String> {
+    let mut states = States::default();
+    for edition in Edition::BOTH {
+        states += judged_of::<FAULT>(edition, seed)?;
+    }
+    Ok(states)
 }
 
-fn judged_of<const FAULT: u8>(edition: Edition, seed: u64) -> Result<u64, String> {
+fn judged_of<const FAULT: u8>(edition: Edition, seed: u64) -> Result<States, String> {
     let base = started(edition);
-    let mut judge = Judge::<FAULT> { edition, base, states: 0 };
+    let mut random = Random::new(seed);
+    let mut judge = Judge::<FAULT> { edition, base, states: States::default() };
 
     // Stage, latched count, clocks left, next address and held bytes: every combination for the stages of commands and for their neighbours.
     let close = [0x81, 0xC1, 0x40, 0x80, 0x52, 0x92, 0x1A, 0x16, 0x1E];
@@ -311,8 +360,19 @@ fn judged_of<const FAULT: u8>(edition: Edition, seed: u64) -> Result<u64, String
         memory.chip_mut().eeprom[place] ^= 0xFF;
         judge.judge(memory)?;
     }
+    // No sum of lost bytes is judged: each beside FIFOOvfl clear and set, at every stage, with batches and held bytes that are well formed and not.
+    for stage in 0..=255 {
+        for (latched, left, next) in [(0, 0, 0x000), (16, 1, 0x020), (16, 0, 0x020), (0, 0, 0x200)] {
+            for held in HELD {
+                let memory = with(&base, stage, latched, left, next, 250, held);
+                for sum in sums(&mut random) {
+                    judge.judge(with_sum(&memory, sum, false))?;
+                    judge.judge(with_sum(&memory, sum, true))?;
+                }
+            }
+        }
+    }
     // Several fields at once.
-    let mut random = Random::new(seed);
     for _ in 0..200_000 {
         let mut memory = random.of(&chips);
         for _ in 0..=random.below(4) {
@@ -348,27 +408,45 @@ fn some_chips(base: &Memory) -> Vec<Memory> {
     chips
 }
 
-/// Calls on both chips, from states of both editions that are well formed: WriteE2 with and without a batch, and latched counts that other commands
-/// have left. Answers how many calls those were.
+/// Calls on both chips, from states of both editions that are well formed: WriteE2 with and without a batch, latched counts that other commands
+/// have left, and sums of lost bytes. Answers how many calls those were.
 pub fn worked<const FAULT: u8>() -> Result<u64, String> {
-    Ok(worked_of::<FAULT>(Edition::Mfrc531)? + worked_of::<FAULT>(Edition::MfRc530)?)
+    Edition::BOTH.into_iter().try_fold(0, |count, edition| Ok(count + batches::<FAULT>(edition)? + losses::<FAULT>(edition)?))
 }
 
-fn worked_of<const FAULT: u8>(edition: Edition) -> Result<u64, String> {
+/// Each of the calls, from the state, if it is well formed. Answers how many calls those were.
+fn made<const FAULT: u8>(edition: Edition, base: Memory, memory: &Memory, calls: &[Call]) -> Result<u64, String> {
+    if plain_of::<FAULT>(memory.chip()).is_err() {
+        return Ok(0);
+    }
+    for call in calls {
+        let mut session = Session::<FAULT>::of(*memory);
+        // The call, and then a poll and clocks on what it has left.
+        for call in [call, &Call::Read { address: PRIMARY_STATUS }, &Call::Advance { clocks: 2 }] {
+            session.perform(call).map_err(|difference| {
+                let judge = Judge::<FAULT> { edition, base, states: States::default() };
+                format!("{call} after {}: {difference}", judge.line(memory))
+            })?;
+        }
+    }
+    Ok(3 * calls.len() as u64)
+}
+
+fn batches<const FAULT: u8>(edition: Edition) -> Result<u64, String> {
     let base = started(edition);
     let calls = [
         Call::Advance { clocks: 1 },
         Call::Advance { clocks: 65_535 },
         Call::Advance { clocks: 2 * PROGRAMMING_CLOCKS },
         Call::Advance { clocks: u32::MAX },
-        Call::Write { address: 0x01, byte: 0x00 },
-        Call::Write { address: 0x01, byte: 0x01 },
-        Call::Write { address: 0x01, byte: 0x12 },
-        Call::Write { address: 0x01, byte: 0x1E },
-        Call::Write { address: 0x01, byte: 0x3F },
-        Call::Write { address: 0x02, byte: 0x55 },
-        Call::Write { address: 0x09, byte: 0x01 },
-        Call::Read { address: 0x02 },
+        Call::Write { address: COMMAND, byte: 0x00 },
+        Call::Write { address: COMMAND, byte: 0x01 },
+        Call::Write { address: COMMAND, byte: 0x12 },
+        Call::Write { address: COMMAND, byte: 0x1E },
+        Call::Write { address: COMMAND, byte: 0x3F },
+        Call::Write { address: FIFO_DATA, byte: 0x55 },
+        Call::Write { address: CONTROL, byte: 0x01 },
+        Call::Read { address: FIFO_DATA },
         Call::Take { length: 66, fill: 0 },
         Call::Deliver { bytes: vec![0x26], parities: vec![0], last_bits: 0 },
     ];
@@ -378,25 +456,60 @@ fn worked_of<const FAULT: u8>(edition: Edition) -> Result<u64, String> {
             for left in [0, 1, PROGRAMMING_CLOCKS] {
                 for next in NEXT {
                     for held in [0, 1, 2, 11, 63, 64] {
-                        let memory = with(&base, stage, latched, left, next, 240, held);
-                        if plain_of::<FAULT>(memory.chip()).is_err() {
-                            continue;
-                        }
-                        for call in &calls {
-                            count += 1;
-                            let mut session = Session::<FAULT>::of(memory);
-                            // The call, and then a poll and clocks on what it has left.
-                            for call in [call, &Call::Read { address: PRIMARY_STATUS }, &Call::Advance { clocks: 2 }] {
-                                session.perform(call).map_err(|difference| {
-                                    let judge = Judge::<FAULT> { edition, base, states: 0 };
-                                    format!("{call} after {}: {difference}", judge.line(&memory))
-                                })?;
-                            }
+                        count += made::<FAULT>(edition, base, &with(&base, stage, latched, left, next, 240, held), &calls)?;
+                    }
+                }
+            }
+        }
+    }
+    Ok(count)
+}
+
+/// All six events, accepted and refused, with sums of lost bytes that a start leads to and others. The first held bytes are ReadE2's arguments for 128
+/// bytes from 000h.
+fn losses<const FAULT: u8>(edition: Edition) -> Result<u64, String> {
+    let base = started(edition);
+    let other = Edition::BOTH[1 - edition as usize];
+    let deliver = |length| Call::Deliver { bytes: vec![0x26; length], parities: vec![0; length], last_bits: 0 };
+    let calls = [
+        Call::Start { image: image(other) },
+        Call::Start { image: Image { length: 511, ..image(other) } },
+        Call::Start { image: Image { type_bytes: [0; 4], ..image(other) } },
+        Call::Read { address: FIFO_DATA },
+        Call::Read { address: 64 },
+        Call::Write { address: FIFO_DATA, byte: 0x80 },
+        Call::Write { address: COMMAND, byte: 0x00 },
+        Call::Write { address: COMMAND, byte: 0x03 },
+        Call::Write { address: COMMAND, byte: 0x12 },
+        Call::Write { address: COMMAND, byte: 0x3F },
+        Call::Write { address: CONTROL, byte: 0x36 },
+        Call::Write { address: CONTROL, byte: 0x01 },
+        Call::Write { address: 64, byte: 0x01 },
+        Call::Advance { clocks: 2 * PROGRAMMING_CLOCKS },
+        Call::Take { length: 66, fill: 0 },
+        Call::Take { length: 65, fill: 0 },
+        deliver(0),
+        deliver(1),
+        deliver(4),
+        deliver(64),
+    ];
+    let mut random = Random::new(9);
+    let mut count = 0;
+    for stage in LISTED {
+        for (latched, left, next) in [(0, 0, 0x020), (16, 1, 0x020), (1, PROGRAMMING_CLOCKS, 0x000)] {
+            for held in [0, 1, 2, 3, 11, 60, 61, 62, 63, 64] {
+                let mut memory = with(&base, stage, latched, left, next, 254, held);
+                (memory.chip_mut().slots[62], memory.chip_mut().slots[63], memory.chip_mut().slots[0]) = (0x00, 0x00, 0x80);
+                for redundancy in [0x00, 0x08] {
+                    memory.chip_mut().registers[0x22 - 0x10] = redundancy;
+                    for sum in sums(&mut random) {
+                        for overflow in [false, true] {
+                            count += made::<FAULT>(edition, base, &with_sum(&memory, sum, overflow), &calls)?;
                         }
                     }
                 }
             }
         }
     }
-    Ok(3 * count)
+    Ok(count)
 }

@@ -211,16 +211,29 @@ pub fn first_memory(seed: u64) -> Memory {
     memory
 }
 
-/// Reads a list as it is printed. What follows a `#` is left out.
+/// Reads a list as it is printed. What follows a `#` is left out. Calls between `repeat 25` and `end` are made 25 times.
 pub fn parse(text: &str) -> Result<List, String> {
     let mut list = List { memory: 0, calls: Vec::new() };
+    // Where each repetition begins that has not ended yet, and how often it is made.
+    let mut repeated: Vec<(usize, usize)> = Vec::new();
     for (number, line) in text.lines().enumerate() {
         let words: Vec<&str> = line.split('#').next().unwrap_or("").split_whitespace().collect();
-        if !words.is_empty() {
-            parse_line(&words, &mut list).ok_or_else(|| format!("line {}: not understood: {line}", number + 1))?;
-        }
+        let understood = match words[..] {
+            [] => Some(()),
+            ["repeat", times] => times.parse().ok().map(|times| repeated.push((list.calls.len(), times))),
+            ["end"] => repeated.pop().map(|(begin, times)| {
+                let calls = list.calls.split_off(begin);
+                (0..times).for_each(|_| list.calls.extend_from_slice(&calls));
+            }),
+            _ => parse_line(&words, &mut list),
+        };
+        understood.ok_or_else(|| format!("line {}: not understood: {line}", number + 1))?;
     }
-    Ok(list)
+    if repeated.is_empty() {
+        Ok(list)
+    } else {
+        Err("a repetition does not end".to_string())
+    }
 }
 
 fn parse_line(words: &[&str], list: &mut List) -> Option<()> {

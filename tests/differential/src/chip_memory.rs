@@ -27,7 +27,8 @@ layout! {
     4 programming_left: u32,
     8 crc_register: u16,
     10 next_address: u16,
-    12 reserved_numbers: [u16; 4],
+    12 lost_sum: u16,
+    14 reserved_numbers: [u16; 3],
     20 page: u8,
     21 control: u8,
     22 key_loaded: u8,
@@ -254,6 +255,7 @@ pub fn plain_of<const FAULT: u8>(chip: &ChipMemory) -> Result<FaultyChip<FAULT>,
         enables: chip.interrupt_en,
         requests: chip.interrupt_rq,
         errors: chip.error_flag,
+        lost_sum: chip.lost_sum,
         control: chip.control,
         rx_last_bits: chip.rx_last_bits,
         bit_framing: chip.bit_framing,
@@ -273,7 +275,7 @@ fn judge(holds: bool, else_reason: &'static str) -> Result<(), &'static str> {
 
 /// What is kept for later requests is 0: a start leaves it so.
 pub fn reserved_is_zero(chip: &ChipMemory) -> bool {
-    chip.reserved_numbers == [0; 4] && chip.reserved_17 == [0; 7]
+    chip.reserved_numbers == [0; 3] && chip.reserved_17 == [0; 7]
 }
 
 // ---- The comparison --------------------------------------------------------------------------------------------------------------------
@@ -295,7 +297,7 @@ pub fn difference<const FAULT: u8>(plain: &FaultyChip<FAULT>, chip: &ChipMemory,
         _ => (None, None, 0),
     };
     let stage = if left > 0 { chip.stage | 0x40 } else { chip.stage };
-    let fields: [(&str, u32, u32); 21] = [
+    let fields: [(&str, u32, u32); 22] = [
         ("edition", plain.edition as u32, u32::from(chip.edition)),
         ("held count", u32::from(plain.fifo.held()), u32::from(chip.fifo_write.wrapping_sub(chip.fifo_read))),
         ("timer_running", u32::from(plain.timer.run.is_some()), u32::from(chip.timer_running)),
@@ -312,6 +314,7 @@ pub fn difference<const FAULT: u8>(plain: &FaultyChip<FAULT>, chip: &ChipMemory,
         ("interrupt_rq", u32::from(plain.requests), u32::from(chip.interrupt_rq)),
         ("page", u32::from(plain.page), u32::from(chip.page)),
         ("error_flag", u32::from(plain.errors), u32::from(chip.error_flag)),
+        ("lost_sum", u32::from(plain.lost_sum), u32::from(chip.lost_sum)),
         ("control", u32::from(plain.control), u32::from(chip.control)),
         ("rx_last_bits", u32::from(plain.rx_last_bits), u32::from(chip.rx_last_bits)),
         ("bit_framing", u32::from(plain.bit_framing), u32::from(chip.bit_framing)),
@@ -385,6 +388,7 @@ pub fn store<const FAULT: u8>(plain: &FaultyChip<FAULT>, position: u8, chip: &mu
     chip.interrupt_rq = plain.requests;
     chip.page = plain.page;
     chip.error_flag = plain.errors;
+    chip.lost_sum = plain.lost_sum;
     chip.control = plain.control;
     chip.rx_last_bits = plain.rx_last_bits;
     chip.bit_framing = plain.bit_framing;

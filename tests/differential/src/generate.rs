@@ -1,10 +1,10 @@
 //! Call lists that get somewhere. The generator looks at the plain chip as it stands, makes small plans (a command with its arguments, a frame
 //! with its CRC, a programming to its last clock ...), and strays from them now and then.
 
-use crate::built::type_by_arithmetic;
+use crate::built::{type_by_arithmetic, SUMS};
 use crate::call::{lively, near_type, some_type, Call, Fill, Image};
 use crate::chip_memory::{field, Memory, ARRAYS, SIZE};
-use crate::plain::{stored_nibble, Checksum, Command, Edition, FaultyChip, Writing, PROGRAMMING_CLOCKS};
+use crate::plain::{stored_nibble, Checksum, Command, Edition, FaultyChip, Fifo, Writing, PROGRAMMING_CLOCKS};
 use crate::random::Random;
 use std::collections::VecDeque;
 
@@ -20,16 +20,23 @@ enum Step {
     TimerEnd(i64),
     /// A delivery that fits the settings, or nearly.
     Deliver,
+    /// Calls until so many bytes are held, without a flush.
+    Hold(u8),
+    /// So many calls of which most lose as many bytes as a call can, without a flush.
+    Flood(u32),
     Call(Call),
 }
+
+/// ReadE2's arguments for all that it may read: 128 bytes from 000h.
+const MOST_READ: [u8; 3] = [0x00, 0x00, 0x80];
 
 pub struct Generator {
     random: Random,
     plan: VecDeque<Step>,
     /// Calls until a corruption is mended; 0: none is to be.
     mend_in: u64,
-    /// A command to be written after a forged state.
-    after_forging: Option<u8>,
+    /// What is to follow a forged state.
+    after_forging: Vec<Step>,
     /// One call in so many writes into the chip's memory, besides the plans that do; 0: none.
     hostile: u64,
 }
@@ -47,7 +54,7 @@ const EDGES: [u16; 31] = [
 impl Generator {
     pub fn new(mut random: Random) -> Self {
         let hostile = random.of(&[0, 0, 40, 10]);
-        Generator { random, plan: VecDeque::new(), mend_in: 0, after_forging: None, hostile }
+        Generator { random, plan: VecDeque::new(), mend_in: 0, after_forging: Vec::new(), hostile }
     }
 
     /// The next call, by the plain chip; none is for a malformed memory.
@@ -122,7 +129,43 @@ impl Generator {
                 Some(self.clocks(left + more, Step::TimerEnd(more)))
             }
             Step::Deliver => Some(self.frame(chip)),
+            Step::Hold(wanted) => {
+                let next = self.towards(wanted, chip)?;
+                self.plan.push_front(step);
+                self.turn(next, chip)
+            }
+            Step::Flood(calls) => {
+                if calls > 1 {
+                    self.plan.push_front(Step::Flood(calls - 1));
+                }
+                let next = match chip.command {
+                    Command::Idle if chip.fifo.bytes().take(3).eq(MOST_READ) => Step::Set(0x01, 0x03),
+                    command if command.receives() => pass_whole(MOST_READ.into_iter().cycle().take(64).collect()),
+                    // The next round's arguments come into an empty FIFO.
+                    _ => self.towards(0, chip).unwrap_or(Step::Set(0x01, 0x16)),
+                };
+                self.turn(next, chip)
+            }
         }
+    }
+
+    /// A call that brings the FIFO nearer to so many bytes held; none where they are. Over three that are missing are delivered, and over three that are
+    /// too many go with a take: neither a flush nor a start is among the calls, so that the sum of lost bytes stays.
+    fn towards<const FAULT: u8>(&mut self, wanted: u8, chip: &FaultyChip<FAULT>) -> Option<Step> {
+        let held = chip.fifo.held();
+        let (missing, more) = (wanted.saturating_sub(held), held.saturating_sub(wanted));
+        Some(match chip.command {
+            _ if held == wanted => return None,
+            // No other command can be written before its end.
+            Command::WriteE2(Writing::Programming { .. }) => Step::ProgrammingEnd(0),
+            command if command.receives() && missing > 0 => pass_whole(self.random.bytes(missing.into())),
+            command if command.sends() && more > 0 => Step::Call(Call::Take { length: 66, fill: self.random.byte() }),
+            _ if missing > 3 => Step::Set(0x01, 0x16),
+            _ if more > 3 => Step::Set(0x01, 0x1A),
+            Command::Idle if missing > 0 => Step::Set(0x02, self.random.byte()),
+            Command::Idle => Step::Get(0x02),
+            _ => Step::Set(0x01, 0x00),
+        })
     }
 
     /// So many clocks, or a first part of them with the step again behind it.
@@ -144,7 +187,9 @@ impl Generator {
             4..=7 => Call::Write { address: random.byte() & 0x3F, byte: random.byte() },
             8 => Call::Read { address: random.of(&[63, 64, 65, 127, 128, 255, 0x42]) },
             9 => Call::Write { address: random.of(&[63, 64, 65, 127, 128, 255, 0x42]), byte: random.byte() },
-            10 => Call::Advance { clocks: random.of(&[0, 1, 2, 65_535, 65_536, 78_648, 131_072, 235_944, 1 << 24, u32::MAX, random.clone().number() as u32]) },
+            10 => Call::Advance {
+                clocks: random.of(&[0, 1, 2, 65_535, 65_536, 78_648, 131_072, 235_944, 1 << 24, u32::MAX, random.clone().number() as u32]),
+            },
             11 => Call::Advance { clocks: random.below(66_000) as u32 },
             12 | 13 => self.take(),
             14 => {
@@ -266,7 +311,7 @@ impl Generator {
 
     /// A new plan, or a call right away.
     fn make_plan(&mut self, memory: &Memory) -> Option<Call> {
-        match self.random.below(100) {
+        match self.random.below(110) {
             0..=9 => {
                 for _ in 0..=self.random.below(4) {
                     self.setting();
@@ -386,6 +431,7 @@ impl Generator {
                 self.set(0x01, code);
             }
             92..=96 => return Some(self.corrupt(memory)),
+            100..=109 => self.plan_loss(),
             88 | 97 | 98 => {
                 let register = self.random.byte() & 0x3F;
                 let byte = self.random.byte();
@@ -407,6 +453,10 @@ impl Generator {
     /// What the active command waits for, whichever way it became active.
     fn go_on<const FAULT: u8>(&mut self, chip: &FaultyChip<FAULT>) {
         let held = usize::from(chip.fifo.held());
+        if self.random.one_in(3) {
+            // PrimaryStatus shows ModemState, which goes by the command.
+            self.plan.push_back(Step::Get(0x03));
+        }
         match chip.command {
             Command::Idle => {}
             Command::LoadKey => {
@@ -436,6 +486,82 @@ impl Generator {
                 self.call(take);
             }
             _ => self.plan.push_back(Step::Deliver),
+        }
+    }
+
+    /// More bytes than the FIFO has room for, by each of the ways in; then a call that clears the sum of lost bytes, or does not.
+    fn plan_loss(&mut self) {
+        let nearly = 60 + self.random.below(5) as u8;
+        let any = self.random.of(&[nearly, nearly, self.random.clone().below(65) as u8]);
+        let few = 1 + self.random.below(6);
+        match self.random.below(200) {
+            0 | 1 => self.plan.push_back(Step::Flood(720)),
+            2..=49 => {
+                self.plan.push_back(Step::Hold(nearly));
+                for _ in 0..few {
+                    let byte = self.random.byte();
+                    self.set(0x02, byte);
+                    if self.random.one_in(4) {
+                        self.plan.push_back(Step::Get(0x02));
+                    }
+                }
+            }
+            50..=89 => {
+                // ReadE2 by its code, with its arguments before others, or by its last argument.
+                let [from, count] =
+                    self.random.of(&[[0x00, 0x80], [0x00, 0x80], [0x01, 0x7F], [0x40, 0x40], [0x00, 0x41], [0x00, 0x40], [0x00, 0x81]]);
+                self.plan.push_back(Step::Hold(0));
+                let by_code = !self.random.one_in(3);
+                self.set(0x01, if by_code { 0x00 } else { 0x03 });
+                [from, 0x00, count].iter().for_each(|&byte| self.set(0x02, byte));
+                if by_code {
+                    self.plan.push_back(Step::Hold(any.max(3)));
+                    self.set(0x01, 0x03);
+                }
+            }
+            90..=149 => {
+                if self.random.one_in(2) {
+                    let mode = lively(0x22, &mut self.random);
+                    self.set(0x22, mode);
+                }
+                self.plan.push_back(Step::Hold(any));
+                self.set(0x01, 0x16);
+                self.plan.push_back(Step::Deliver);
+            }
+            _ => {
+                // A take of a full FIFO, bytes behind it, and a reply.
+                self.plan.push_back(Step::Hold(64));
+                let code = self.random.of(&[0x1A, 0x1E]);
+                self.set(0x01, code);
+                (0..few).for_each(|byte| self.set(0x02, byte as u8));
+                let take = self.take();
+                self.call(take);
+                if few == 1 {
+                    let behind = self.random.below(70);
+                    (0..behind).for_each(|byte| self.set(0x02, byte as u8));
+                }
+                self.plan.push_back(Step::Deliver);
+            }
+        }
+        match self.random.below(12) {
+            0 => self.set(0x09, 0x01),
+            1 => {
+                let control = self.random.byte();
+                self.set(0x09, control);
+            }
+            2 => {
+                let start = self.start();
+                self.call(start);
+            }
+            3 => {
+                let stray = self.stray();
+                self.call(stray);
+            }
+            4 => {
+                let code = self.random.of(&COMMANDS);
+                self.set(0x01, code);
+            }
+            _ => {}
         }
     }
 
@@ -479,6 +605,12 @@ impl Generator {
         let mut checksum = Checksum::begin(mode, chip.registers[0x13], chip.registers[0x14]);
         let mut bytes = self.data(64);
         bytes.truncate(64);
+        if self.random.one_in(3) {
+            // About as many as there is room for, and the CRC.
+            let room = u64::from(Fifo::SIZE - chip.fifo.held());
+            let count = (room + self.random.below(6)).clamp(1, 64) as usize;
+            bytes = self.random.bytes(count);
+        }
         if mode & 0x08 != 0 && !self.random.one_in(6) {
             let width = checksum.width();
             bytes.truncate(64 - width);
@@ -540,9 +672,7 @@ impl Generator {
             self.mend_in = 0;
         }
         self.plan.clear();
-        if let Some(code) = self.after_forging.take() {
-            self.set(0x01, code);
-        }
+        self.plan.extend(self.after_forging.drain(..));
         Call::Corrupt { edits }
     }
 
@@ -553,7 +683,7 @@ impl Generator {
             let (start, length) = field(name).unwrap_or_else(|| panic!("no field {name}"));
             edits.extend((0..length).map(|place| ((start + place) as u16, value.checked_shr(8 * place as u32).unwrap_or(0) as u8)));
         };
-        match random.below(16) {
+        match random.below(18) {
             0 | 1 => {
                 let prescaler = random.of(&[0, 0, 1, 2, 5, 12, 20, 21, 21, 22, 23, 31, 32, 33, 53, 64, 128, 254, 255]);
                 let period = 1u32.checked_shl(prescaler).unwrap_or(0);
@@ -601,7 +731,8 @@ impl Generator {
                 let read = random.byte();
                 put("fifo_read", u32::from(read));
                 put("fifo_write", u32::from(read.wrapping_add(random.of(&[0, 0, 0, 0, 1, 2, 64]))));
-                self.after_forging = random.of(&[None, Some(0x01), Some(0x01), Some(0x12), Some(0x00)]);
+                let code = random.of(&[None, Some(0x01), Some(0x01), Some(0x12), Some(0x00)]);
+                self.after_forging = code.map(|code| Step::Set(0x01, code)).into_iter().collect();
             }
             7..=9 => {
                 // A stage, and about as many bytes as may wait.
@@ -655,7 +786,27 @@ impl Generator {
                     edits.push((start as u16 + 4, random.byte()));
                 }
             }
-            14 => {
+            14 | 15 => {
+                // A sum of lost bytes beside any FIFOOvfl, with a FIFO that is full, or nearly, or not. The first held are ReadE2's arguments.
+                let sum = if random.one_in(4) { random.number() as u16 } else { random.of(&SUMS) };
+                put("lost_sum", u32::from(sum));
+                put("error_flag", u32::from(random.byte() & 0x7A));
+                let read = random.byte();
+                let held = random.of(&[0, 2, 61, 62, 63, 64, 64, 64]);
+                put("stage", random.of(&[0x00, 0x00, 0x00, 0x96, 0x9E, 0x5A]));
+                put("programming_left", 0);
+                put("fifo_read", u32::from(read));
+                put("fifo_write", u32::from(read.wrapping_add(held)));
+                let (slots, _) = field("slots").unwrap_or_default();
+                edits.extend((0..3).map(|place| (slots as u16 + u16::from(read.wrapping_add(place) % 64), MOST_READ[usize::from(place)])));
+                self.after_forging = match random.below(4) {
+                    0 => vec![Step::Set(0x01, 0x03)],
+                    1 => vec![Step::Set(0x02, random.byte()), Step::Set(0x02, random.byte())],
+                    2 => vec![Step::Set(0x01, 0x16), Step::Deliver],
+                    _ => Vec::new(),
+                };
+            }
+            16 => {
                 let name = random.of(&["reserved_numbers", "reserved_17"]);
                 let (start, length) = field(name).unwrap_or_default();
                 for place in start..start + length {
@@ -681,6 +832,11 @@ impl Generator {
             }
         }
     }
+}
+
+/// A delivery whose bytes all pass, whatever the settings are: with last bits no CRC is dropped.
+fn pass_whole(bytes: Vec<u8>) -> Step {
+    Step::Call(Call::Deliver { parities: vec![0; bytes.len()], bytes, last_bits: 1 })
 }
 
 /// A next address, at the ends of blocks and of the memory, and beyond it. Before it stand (next + 15) mod 16 + 1 bytes of its block.

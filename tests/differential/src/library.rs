@@ -23,6 +23,7 @@ extern "C" {
         parity_length: usize,
         last_bits: u8,
     ) -> u32;
+    pub fn mfrc531_lost_sum(chip: *const ChipMemory) -> u32;
     pub fn mfrc531_check_profile(edition: u8, profile: *const u8, length: usize) -> u32;
     pub fn mfrc531_choose(user: *const u8, user_length: usize, rescue: *const u8, rescue_length: usize) -> u32;
     /// Of the crate `crc_exports`, for this test alone.
@@ -35,6 +36,7 @@ pub use stub::*;
 #[cfg(feature = "stub")]
 mod stub {
     use super::ChipMemory;
+    use crate::answer;
     use crate::checksum;
     use crate::chip_memory::{plain_of, store};
     use crate::plain::{fault, Chip, Refusal};
@@ -42,20 +44,18 @@ mod stub {
     use std::slice;
 
     /// One event on the chip of a memory. The FIFO begins at another position after each, since no definition decides where.
-    fn event(chip: *mut ChipMemory, event: impl FnOnce(&mut Chip) -> Result<u32, Refusal>) -> u32 {
+    fn event(chip: *mut ChipMemory, event: impl FnOnce(&mut Chip) -> u32) -> u32 {
         // SAFETY: the caller's pointer is good.
         let memory = unsafe { &mut *chip };
         let Ok(mut plain) = plain_of(memory) else {
             return Refusal::ChipMalformed as u32;
         };
-        match event(&mut plain) {
-            Ok(answer) => {
-                let position = memory.fifo_read.wrapping_add(37);
-                store(&plain, position, memory);
-                answer
-            }
-            Err(refusal) => refusal as u32,
+        let answer = event(&mut plain);
+        if answer & 0xFF == 0 {
+            let position = memory.fifo_read.wrapping_add(37);
+            store(&plain, position, memory);
         }
+        answer
     }
 
     pub unsafe fn mfrc531_start(chip: *mut ChipMemory, image: *const u8, length: usize) -> u32 {
@@ -70,20 +70,20 @@ mod stub {
     }
 
     pub unsafe fn mfrc531_read(chip: *mut ChipMemory, address: u8) -> u32 {
-        event(chip, |plain| plain.read(address).map(|byte| u32::from(byte) << 8))
+        event(chip, |plain| answer::of_byte(plain.read(address)))
     }
 
     pub unsafe fn mfrc531_write(chip: *mut ChipMemory, address: u8, byte: u8) -> u32 {
-        event(chip, |plain| plain.write(address, byte).map(|()| 0))
+        event(chip, |plain| answer::of_lost(plain.write(address, byte)))
     }
 
     pub unsafe fn mfrc531_advance(chip: *mut ChipMemory, clocks: u32) -> u32 {
-        event(chip, |plain| plain.advance(clocks).map(|()| 0))
+        event(chip, |plain| answer::of_nothing(plain.advance(clocks)))
     }
 
     pub unsafe fn mfrc531_take(chip: *mut ChipMemory, buffer: *mut u8, length: usize) -> u32 {
         let buffer = slice::from_raw_parts_mut(buffer, length);
-        event(chip, |plain| plain.take(buffer).map(|taken| u32::from(taken.count) << 8 | u32::from(taken.last_bits) << 16))
+        event(chip, |plain| answer::of_taken(plain.take(buffer)))
     }
 
     pub unsafe fn mfrc531_deliver(
@@ -96,7 +96,11 @@ mod stub {
     ) -> u32 {
         let bytes = slice::from_raw_parts(bytes, length);
         let parities = slice::from_raw_parts(parities, parity_length);
-        event(chip, |plain| plain.deliver(bytes, parities, last_bits).map(|()| 0))
+        event(chip, |plain| answer::of_lost(plain.deliver(bytes, parities, last_bits)))
+    }
+
+    pub unsafe fn mfrc531_lost_sum(chip: *const ChipMemory) -> u32 {
+        answer::of_sum(plain_of(&*chip).map_or(Err(Refusal::ChipMalformed), |plain: Chip| plain.lost_sum()))
     }
 
     pub unsafe fn mfrc531_check_profile(edition: u8, profile: *const u8, length: usize) -> u32 {

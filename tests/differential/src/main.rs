@@ -1,6 +1,7 @@
 //! Calls on two chips: the proved library by its C interface, and a plain model written from the requirements. After each call the answer,
-//! every lent byte and the whole chip are compared. See README.md.
+//! every lent byte, the whole chip and the sum of lost bytes are compared. See README.md.
 
+mod answer;
 mod built;
 mod call;
 mod checksum;
@@ -20,10 +21,11 @@ mod statistics;
 #[cfg(test)]
 mod tests;
 
+use answer::Answer;
 use call::{parse, Call, List};
 use generate::Generator;
 use random::Random;
-use session::{Answer, Session};
+use session::Session;
 use statistics::{Glance, Statistics};
 use std::process::ExitCode;
 use std::time::{Duration, Instant};
@@ -34,13 +36,14 @@ const NONE: u8 = plain::fault::NONE;
 const USAGE: &str = "differential [--calls N] [--seed S] [--break N|all] [--random] [--trace] | --replay FILE | --race | --mixes | --count CHIP KIND ROUNDS";
 
 /// Lists written by hand, run before the random ones.
-const DIRECTED: [(&str, &str); 6] = [
+const DIRECTED: [(&str, &str); 7] = [
     ("numbers", include_str!("../lists/numbers.txt")),
     ("memory", include_str!("../lists/memory.txt")),
     ("clocks", include_str!("../lists/clocks.txt")),
     ("frames", include_str!("../lists/frames.txt")),
     ("refusals", include_str!("../lists/refusals.txt")),
     ("editions", include_str!("../lists/editions.txt")),
+    ("lost", include_str!("../lists/lost.txt")),
 ];
 
 struct Options {
@@ -179,7 +182,8 @@ fn compare(options: &Options) -> bool {
             return false;
         }
     };
-    let built = match built::judged::<NONE>(options.seed).and_then(|states| built::worked::<NONE>().map(|calls| (states, calls))) {
+    let (states, calls) = match built::judged::<NONE>(options.seed).and_then(|states| built::worked::<NONE>().map(|calls| (states, calls)))
+    {
         Ok(built) => built,
         Err(message) => {
             println!("DIFFERENCE on a chip that was built: {message}");
@@ -196,11 +200,13 @@ fn compare(options: &Options) -> bool {
     match run::<NONE>(options) {
         Ok(statistics) => {
             println!(
-                "No difference, {:.1} s. {statistics}; besides, {} built states judged and {} calls on such, {parts} advances at once and in \
-                 parts, {checksums} checksums over slices, {profiles}",
+                "No difference, {:.1} s. {statistics}; besides, {} built states judged, {} of them with a sum of lost bytes above 0 and {} with one \
+                 that FIFOOvfl does not agree with, and {calls} calls on such, {parts} advances at once and in parts, {checksums} checksums over \
+                 slices, {profiles}",
                 begin.elapsed().as_secs_f64(),
-                built.0,
-                built.1
+                states.all,
+                states.summed,
+                states.apart
             );
             true
         }
@@ -419,6 +425,7 @@ fn notice(fault: u8, options: &Options) -> bool {
     }
     let planted = planted!(
         1 2 3 4 5 6 7 8 9 10 11 12 13 14 15 16 17 18 19 20 21 22 23 24 25 26 27 28 29 30 31 32 33 34 35 36 37 38 39 40 41 42 43
+        44 45 46 47 48 49 50 51 52 53 54
     );
     let name = plain::fault::NAMES[usize::from(fault) - 1];
     if fault >= plain::fault::IN_PROFILES {

@@ -56,18 +56,29 @@ pub mod fault {
     pub const TYPE_BYTES_ARE_NOT_JUDGED: u8 = 35;
     pub const EDITION_ABOVE_1_IS_WELL_FORMED: u8 = 36;
     pub const REFUSED_START_CHANGES_EDITION: u8 = 37;
-    pub const FIXED_1_IS_TESTED_AS_0: u8 = 38;
-    pub const EDITION_ABOVE_1_IS_CHECKED: u8 = 39;
-    pub const EDITION_BEFORE_LENGTH: u8 = 40;
-    pub const CHOICE_BY_ONE_TABLE: u8 = 41;
-    pub const CHOICE_OF_NEITHER: u8 = 42;
-    pub const RESCUE_BY_THE_USERS_EDITION: u8 = 43;
+    pub const DROPPED_CRC_IS_LOST: u8 = 38;
+    pub const BYTE_TAKEN_IN_AT_63_IS_LOST: u8 = 39;
+    pub const LOST_BY_READ_E2_IS_NOT_ANSWERED: u8 = 40;
+    pub const LOST_IS_ANSWERED_UP_TO_THE_LIMIT: u8 = 41;
+    pub const SUM_RUNS_OVER: u8 = 42;
+    pub const SUM_BEGINS_WITH_THE_FLAG: u8 = 43;
+    pub const TAKE_CLEARS_SUM: u8 = 44;
+    pub const COMMAND_WRITE_CLEARS_SUM: u8 = 45;
+    pub const FLUSH_LEAVES_SUM: u8 = 46;
+    pub const START_LEAVES_SUM: u8 = 47;
+    pub const SUM_WITHOUT_THE_FLAG_IS_REFUSED: u8 = 48;
+    pub const FIXED_1_IS_TESTED_AS_0: u8 = 49;
+    pub const EDITION_ABOVE_1_IS_CHECKED: u8 = 50;
+    pub const EDITION_BEFORE_LENGTH: u8 = 51;
+    pub const CHOICE_BY_ONE_TABLE: u8 = 52;
+    pub const CHOICE_OF_NEITHER: u8 = 53;
+    pub const RESCUE_BY_THE_USERS_EDITION: u8 = 54;
 
     /// The first of those that are planted into the profile check and the choice (`profile`) and not into the chip.
     pub const IN_PROFILES: u8 = FIXED_1_IS_TESTED_AS_0;
 
     /// What the faults are, from 1 on.
-    pub const NAMES: [&str; 43] = [
+    pub const NAMES: [&str; 54] = [
         "WaterLevel is off by one",
         "a Command write clears FIFOOvfl",
         "an overflow drops the oldest byte",
@@ -105,6 +116,17 @@ pub mod fault {
         "the type bytes are not judged by refusal 7",
         "an edition's number above 1 is well formed, and its lowest bit counts",
         "a start that is refused with 2 changes the edition",
+        "a dropped CRC is lost where the FIFO is full",
+        "a byte that is taken in at 63 held is counted as lost",
+        "the bytes that ReadE2 loses are not answered",
+        "a call answers no more lost bytes than the sum has room for",
+        "the sum of lost bytes runs over",
+        "the sum of lost bytes begins with the setting of FIFOOvfl",
+        "a take clears the sum of lost bytes",
+        "a Command write clears the sum of lost bytes",
+        "a flush leaves the sum of lost bytes",
+        "a start leaves the sum of lost bytes",
+        "the call for the sum of lost bytes refuses one above 0 beside a clear FIFOOvfl",
         "the profile check tests a bit that is fixed at 1 for 0",
         "the profile check goes by the lowest bit of an edition's number above 1",
         "the profile check judges the edition's number before the length",
@@ -509,6 +531,8 @@ pub struct FaultyChip<const FAULT: u8> {
     pub enables: u8,
     pub requests: u8,
     pub errors: u8,
+    /// Bytes lost since the latest flush or start; at its limit it stays. Any is well formed, whatever FIFOOvfl is.
+    pub lost_sum: u16,
     /// Control (09h), of which bits 5 and 4 are stored.
     pub control: u8,
     pub rx_last_bits: u8,
@@ -559,6 +583,7 @@ impl<const FAULT: u8> FaultyChip<FAULT> {
             enables: 0,
             requests: 0,
             errors: error::KEY,
+            lost_sum: 0,
             control: 0,
             rx_last_bits: 0,
             bit_framing: 0,
@@ -599,7 +624,11 @@ impl<const FAULT: u8> FaultyChip<FAULT> {
             self.edition = Edition::of_image(image).unwrap_or(self.edition);
         }
         let (eeprom, edition) = Self::judged(image)?;
+        let sum = self.lost_sum;
         *self = Self::fresh(eeprom, edition);
+        if FAULT == fault::START_LEAVES_SUM {
+            self.lost_sum = sum;
+        }
         Ok(())
     }
 
@@ -641,25 +670,26 @@ impl<const FAULT: u8> FaultyChip<FAULT> {
         })
     }
 
-    /// A host write to a register. The active command then does what it can.
+    /// A host write to a register. The active command then does what it can. Answers how many bytes were lost.
     #[inline]
-    pub fn write(&mut self, address: u8, byte: u8) -> Result<(), Refusal> {
+    pub fn write(&mut self, address: u8, byte: u8) -> Result<u8, Refusal> {
         if address > 63 {
             return Err(Refusal::AddressAbove63);
         }
         let before = self.alerts();
+        let mut lost = 0;
         match self.register(address) {
             0x00 => self.page = byte & 0x87,
-            0x01 => self.write_command(byte & 0x3F),
+            0x01 => lost = self.write_command(byte & 0x3F),
             0x02 => {
-                self.offer(byte);
+                lost = self.offer(byte);
                 if FAULT == fault::ALERTS_JUDGED_BYTE_BY_BYTE {
                     self.raise_alerts(before);
                     let before = self.alerts();
-                    self.work();
+                    lost += self.work();
                     self.raise_alerts(before);
                 }
-                self.work();
+                lost += self.work();
             }
             0x06 => self.enables = marked(self.enables, byte),
             0x07 => self.requests = marked(self.requests, byte),
@@ -676,7 +706,7 @@ impl<const FAULT: u8> FaultyChip<FAULT> {
             _ => {}
         }
         self.raise_alerts(before);
-        Ok(())
+        Ok(lost)
     }
 
     /// An advance by clocks of 13.56 MHz. The timer and the programming see nothing of each other, so each jumps by itself.
@@ -723,12 +753,16 @@ impl<const FAULT: u8> FaultyChip<FAULT> {
         if FAULT == fault::TAKE_CLEARS_LAST_BITS {
             self.bit_framing &= !7;
         }
+        if FAULT == fault::TAKE_CLEARS_SUM {
+            self.lost_sum = 0;
+        }
         self.raise_alerts(before);
         Ok(Taken { count: count as u8, last_bits })
     }
 
-    /// A delivery of a frame that the chip receives: its bytes, the parity bit of each, and how many bits of the last byte count (0: all).
-    pub fn deliver(&mut self, bytes: &[u8], parities: &[u8], last_bits: u8) -> Result<(), Refusal> {
+    /// A delivery of a frame that the chip receives: its bytes, the parity bit of each, and how many bits of the last byte count (0: all). Answers how
+    /// many bytes were lost; a CRC that is dropped is not offered.
+    pub fn deliver(&mut self, bytes: &[u8], parities: &[u8], last_bits: u8) -> Result<u8, Refusal> {
         if bytes.is_empty() || bytes.len() > 64 || parities.len() != bytes.len() || parities.iter().any(|&bit| bit > 1) || last_bits > 7 {
             return Err(Refusal::FrameMalformed);
         }
@@ -762,7 +796,10 @@ impl<const FAULT: u8> FaultyChip<FAULT> {
                 passed = data;
             }
         }
-        passed.iter().for_each(|&byte| self.offer(byte));
+        let mut lost: u8 = passed.iter().map(|&byte| self.offer(byte)).sum();
+        if FAULT == fault::DROPPED_CRC_IS_LOST && self.fifo.held() == Fifo::SIZE {
+            (passed.len()..bytes.len()).for_each(|_| lost += self.lose());
+        }
         self.rx_last_bits = last_bits;
         if self.registers[setting::TIMER_CONTROL] & 0b1100 != 0 {
             self.timer.run = None;
@@ -770,7 +807,16 @@ impl<const FAULT: u8> FaultyChip<FAULT> {
         self.requests |= request::RX;
         self.end();
         self.raise_alerts(before);
-        Ok(())
+        Ok(lost)
+    }
+
+    /// The call for the sum of lost bytes, which is no event.
+    #[inline]
+    pub fn lost_sum(&self) -> Result<u16, Refusal> {
+        if FAULT == fault::SUM_WITHOUT_THE_FLAG_IS_REFUSED && self.errors & error::OVERFLOW == 0 && self.lost_sum > 0 {
+            return Err(Refusal::ChipMalformed);
+        }
+        Ok(self.lost_sum)
     }
 
     // ---- Registers ---------------------------------------------------------------------------------------------------------------------
@@ -822,6 +868,9 @@ impl<const FAULT: u8> FaultyChip<FAULT> {
         if byte & 1 != 0 {
             self.fifo.clear();
             self.errors &= !error::OVERFLOW;
+            if FAULT != fault::FLUSH_LEAVES_SUM {
+                self.lost_sum = 0;
+            }
         }
         if byte & 4 != 0 {
             self.timer.run = None;
@@ -831,20 +880,24 @@ impl<const FAULT: u8> FaultyChip<FAULT> {
         }
     }
 
-    fn write_command(&mut self, code: u8) {
+    /// Answers how many bytes the command loses at once.
+    fn write_command(&mut self, code: u8) -> u8 {
         if self.command.programs() {
             if FAULT == fault::IGNORED_COMMAND_CLEARS_ERRORS {
                 self.errors &= !(error::ACCESS | error::CRC | error::PARITY);
             }
-            return;
+            return 0;
         }
         self.errors &= !(error::ACCESS | error::CRC | error::PARITY);
         if FAULT == fault::COMMAND_WRITE_CLEARS_OVERFLOW {
             self.errors &= !error::OVERFLOW;
         }
+        if FAULT == fault::COMMAND_WRITE_CLEARS_SUM {
+            self.lost_sum = 0;
+        }
         let Some(command) = Command::of_code(code) else {
             self.end();
-            return;
+            return 0;
         };
         self.command = command;
         match command {
@@ -852,19 +905,35 @@ impl<const FAULT: u8> FaultyChip<FAULT> {
             Command::CalcCrc => self.checksum = self.frame_checksum(),
             _ => {}
         }
-        self.work();
+        self.work()
     }
 
-    /// A byte for the FIFO. The newest one is lost when it is full.
+    /// A byte for the FIFO. The newest one is lost when it is full. Answers how many were lost.
     #[inline]
-    fn offer(&mut self, byte: u8) {
-        if !self.fifo.push(byte) {
-            self.errors |= error::OVERFLOW;
-            if FAULT == fault::OVERFLOW_DROPS_OLDEST {
-                self.fifo.pop();
-                self.fifo.push(byte);
-            }
+    fn offer(&mut self, byte: u8) -> u8 {
+        if self.fifo.push(byte) {
+            let counted = FAULT == fault::BYTE_TAKEN_IN_AT_63_IS_LOST && self.fifo.held() == Fifo::SIZE;
+            return if counted { self.lose() } else { 0 };
         }
+        if FAULT == fault::OVERFLOW_DROPS_OLDEST {
+            self.fifo.pop();
+            self.fifo.push(byte);
+        }
+        let lost = self.lose();
+        self.errors |= error::OVERFLOW;
+        lost
+    }
+
+    /// Counts a byte as lost. Answers how many were.
+    #[inline]
+    fn lose(&mut self) -> u8 {
+        let sum = self.lost_sum;
+        self.lost_sum = match FAULT {
+            fault::SUM_RUNS_OVER => sum.wrapping_add(1),
+            fault::SUM_BEGINS_WITH_THE_FLAG if self.errors & error::OVERFLOW == 0 => 1,
+            _ => sum.saturating_add(1),
+        };
+        u8::from(FAULT != fault::LOST_IS_ANSWERED_UP_TO_THE_LIMIT || self.lost_sum != sum)
     }
 
     /// A checksum as the settings of now begin it.
@@ -930,6 +999,7 @@ impl<const FAULT: u8> FaultyChip<FAULT> {
             if self.fifo.held() == 0 || FAULT == fault::TX_REQUEST_AT_EVERY_PROGRAMMING {
                 self.requests |= request::TX;
             }
+            // WriteE2 offers nothing, so nothing is lost.
             self.work();
         }
     }
@@ -942,8 +1012,8 @@ impl<const FAULT: u8> FaultyChip<FAULT> {
         self.requests |= request::IDLE;
     }
 
-    /// The active command does what it can with the bytes that wait.
-    fn work(&mut self) {
+    /// The active command does what it can with the bytes that wait. Answers how many bytes were lost, which ReadE2 alone can lose.
+    fn work(&mut self) -> u8 {
         let held = self.fifo.held();
         match self.command {
             Command::WriteE2(Writing::Unaddressed) if held >= 2 => {
@@ -952,7 +1022,7 @@ impl<const FAULT: u8> FaultyChip<FAULT> {
                 self.write_block(next);
             }
             Command::WriteE2(Writing::Ready { next }) => self.write_block(next),
-            Command::ReadE2 if held >= 3 => self.read_block(),
+            Command::ReadE2 if held >= 3 => return self.read_block(),
             Command::LoadConfig if held >= 2 => {
                 let address = self.fifo.pop_address();
                 let last = if FAULT == fault::LOAD_CONFIG_FROM_061 { 0x061 } else { 0x060 };
@@ -991,6 +1061,7 @@ impl<const FAULT: u8> FaultyChip<FAULT> {
             }
             _ => {}
         }
+        0
     }
 
     /// WriteE2 at an address: latches what waits, up to the end of the block, and begins to program it.
@@ -1013,19 +1084,23 @@ impl<const FAULT: u8> FaultyChip<FAULT> {
         self.command = Command::WriteE2(Writing::Programming { next, latched, left });
     }
 
-    /// ReadE2 with its three arguments held.
-    fn read_block(&mut self) {
+    /// ReadE2 with its three arguments held. Answers how many bytes were lost.
+    #[inline(never)] // so that a byte written for another command does not pay for it
+    fn read_block(&mut self) -> u8 {
         let from = usize::from(self.fifo.pop_address());
         let count = usize::from(self.fifo.pop().unwrap_or(0));
         let limit = if FAULT == fault::READ_E2_OF_080 { 0x081 } else { 0x080 };
+        let mut lost = 0;
         if count != 0 && from + count > limit {
             self.errors |= error::ACCESS;
         } else if count != 0 {
-            for address in from..from + count {
-                self.offer(self.eeprom[address]);
-            }
+            lost = (from..from + count).map(|address| self.offer(self.eeprom[address])).sum();
         }
         self.end();
+        if FAULT == fault::LOST_BY_READ_E2_IS_NOT_ANSWERED {
+            return 0;
+        }
+        lost
     }
 
     /// Registers 10h-2Fh from 32 bytes of the EEPROM, Page positions skipped.

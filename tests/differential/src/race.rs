@@ -4,6 +4,7 @@
 //! library does, and without it, since its types rule most malformed states out. All three make the same calls, each through a function that
 //! is not inlined into the loop, on a chip that stays where it lies. A figure is the least of many rounds, since a busy machine only adds.
 
+use crate::answer;
 use crate::chip_memory::{Memory, SIZE};
 use crate::library as lib;
 use crate::plain::{Chip, Edition, Refusal};
@@ -21,7 +22,7 @@ const PIECE: usize = 1020;
 /// The plain chip that judges its state at each call.
 struct Judged(Chip);
 
-/// The events, answered with one number.
+/// The events and the call for the sum of lost bytes, answered with one number.
 trait Bench {
     fn start(&mut self, image: &[u8]) -> u32;
     fn read(&mut self, address: u8) -> u32;
@@ -29,12 +30,13 @@ trait Bench {
     fn advance(&mut self, clocks: u32) -> u32;
     fn take(&mut self, buffer: &mut [u8]) -> u32;
     fn deliver(&mut self, bytes: &[u8], parities: &[u8]) -> u32;
+    fn lost_sum(&mut self) -> u32;
     /// Empties the FIFO without an event.
     fn empty(&mut self);
 }
 
 impl Bench for Memory {
-    // Safety, of all six: the chip and the slices are lent for the call alone, each with its own length.
+    // Safety, of all seven: the chip and the slices are lent for the call alone, each with its own length.
     fn start(&mut self, image: &[u8]) -> u32 {
         unsafe { lib::mfrc531_start(self.as_mut_ptr(), image.as_ptr(), image.len()) }
     }
@@ -53,40 +55,43 @@ impl Bench for Memory {
     fn deliver(&mut self, bytes: &[u8], parities: &[u8]) -> u32 {
         unsafe { lib::mfrc531_deliver(self.as_mut_ptr(), bytes.as_ptr(), bytes.len(), parities.as_ptr(), parities.len(), 0) }
     }
+    fn lost_sum(&mut self) -> u32 {
+        unsafe { lib::mfrc531_lost_sum(self.as_mut_ptr()) }
+    }
     fn empty(&mut self) {
         let chip = self.chip_mut();
         chip.fifo_read = chip.fifo_write;
     }
 }
 
-fn number(answer: Result<u32, Refusal>) -> u32 {
-    answer.unwrap_or_else(|refusal| refusal as u32)
-}
-
 impl Bench for Chip {
     #[inline(never)]
     fn start(&mut self, image: &[u8]) -> u32 {
-        number(Chip::start(self, image).map(|()| 0))
+        answer::of_nothing(Chip::start(self, image))
     }
     #[inline(never)]
     fn read(&mut self, address: u8) -> u32 {
-        number(Chip::read(self, address).map(|byte| u32::from(byte) << 8))
+        answer::of_byte(Chip::read(self, address))
     }
     #[inline(never)]
     fn write(&mut self, address: u8, byte: u8) -> u32 {
-        number(Chip::write(self, address, byte).map(|()| 0))
+        answer::of_lost(Chip::write(self, address, byte))
     }
     #[inline(never)]
     fn advance(&mut self, clocks: u32) -> u32 {
-        number(Chip::advance(self, clocks).map(|()| 0))
+        answer::of_nothing(Chip::advance(self, clocks))
     }
     #[inline(never)]
     fn take(&mut self, buffer: &mut [u8]) -> u32 {
-        number(Chip::take(self, buffer).map(|taken| u32::from(taken.count) << 8 | u32::from(taken.last_bits) << 16))
+        answer::of_taken(Chip::take(self, buffer))
     }
     #[inline(never)]
     fn deliver(&mut self, bytes: &[u8], parities: &[u8]) -> u32 {
-        number(Chip::deliver(self, bytes, parities, 0).map(|()| 0))
+        answer::of_lost(Chip::deliver(self, bytes, parities, 0))
+    }
+    #[inline(never)]
+    fn lost_sum(&mut self) -> u32 {
+        answer::of_sum(Chip::lost_sum(self))
     }
     fn empty(&mut self) {
         self.fifo.clear();
@@ -106,27 +111,31 @@ impl Judged {
 impl Bench for Judged {
     #[inline(never)]
     fn start(&mut self, image: &[u8]) -> u32 {
-        number(self.0.start(image).map(|()| 0))
+        answer::of_nothing(self.0.start(image))
     }
     #[inline(never)]
     fn read(&mut self, address: u8) -> u32 {
-        self.judged(|chip| number(chip.read(address).map(|byte| u32::from(byte) << 8)))
+        self.judged(|chip| answer::of_byte(chip.read(address)))
     }
     #[inline(never)]
     fn write(&mut self, address: u8, byte: u8) -> u32 {
-        self.judged(|chip| number(chip.write(address, byte).map(|()| 0)))
+        self.judged(|chip| answer::of_lost(chip.write(address, byte)))
     }
     #[inline(never)]
     fn advance(&mut self, clocks: u32) -> u32 {
-        self.judged(|chip| number(chip.advance(clocks).map(|()| 0)))
+        self.judged(|chip| answer::of_nothing(chip.advance(clocks)))
     }
     #[inline(never)]
     fn take(&mut self, buffer: &mut [u8]) -> u32 {
-        self.judged(|chip| number(chip.take(buffer).map(|taken| u32::from(taken.count) << 8 | u32::from(taken.last_bits) << 16)))
+        self.judged(|chip| answer::of_taken(chip.take(buffer)))
     }
     #[inline(never)]
     fn deliver(&mut self, bytes: &[u8], parities: &[u8]) -> u32 {
-        self.judged(|chip| number(chip.deliver(bytes, parities, 0).map(|()| 0)))
+        self.judged(|chip| answer::of_lost(chip.deliver(bytes, parities, 0)))
+    }
+    #[inline(never)]
+    fn lost_sum(&mut self) -> u32 {
+        self.judged(|chip| answer::of_sum(Chip::lost_sum(chip)))
     }
     fn empty(&mut self) {
         self.0.fifo.clear();
@@ -181,11 +190,16 @@ fn fifo_fills<B: Bench>(chip: &mut B) -> u64 {
     sum
 }
 
+fn lost_sums<B: Bench>(chip: &mut B) -> u64 {
+    (0..1000).map(|_| u64::from(black_box(&mut *chip).lost_sum())).sum()
+}
+
 fn crc_starts<B: Bench>(chip: &mut B) -> u64 {
     (0..1000).map(|_| u64::from(chip.write(black_box(COMMAND), 0x12))).sum()
 }
 
-fn crc_bytes<B: Bench>(chip: &mut B) -> u64 {
+/// Bytes that all go the same way: CalcCRC takes them, or a full FIFO loses them.
+fn byte_writes<B: Bench>(chip: &mut B) -> u64 {
     (0..1000u32).map(|i| u64::from(chip.write(black_box(FIFO_DATA), i as u8))).sum()
 }
 
@@ -253,8 +267,11 @@ macro_rules! line {
 const TIMER_RUNS: &[(u8, u8)] = &[(0x2C, 255), (0x2A, 0x26), (CONTROL, 0x02)];
 const TIMER_ENDS: &[(u8, u8)] = &[(0x2C, 1), (0x2A, 0x20), (CONTROL, 0x02)];
 
+/// As many bytes as the FIFO holds.
+const FULL: &[(u8, u8)] = &[(FIFO_DATA, 0x55); 64];
+
 /// What is raced, beside the recorded mix; the numbers are how many calls, or clocks, a round has. The first is the driver's mix.
-const LINES: [Line; 15] = [
+const LINES: [Line; 17] = [
     line!("mix of host accesses: a command, its bytes, polls, the answer", 1000, &[], mix),
     line!("status poll (host read of PrimaryStatus)", 1000, &[], status_poll),
     line!("status poll while the chip receives", 1000, &[(COMMAND, 0x16)], status_poll),
@@ -262,8 +279,10 @@ const LINES: [Line; 15] = [
     line!("host write of a stored register", 1000, &[], register_writes),
     line!("host write and host read of FIFOData, each", 1000, &[], fifo_pairs),
     line!("host write of FIFOData to an Idle chip, a flush after 64", 975, &[], fifo_fills),
+    line!("host write of FIFOData to a full FIFO", 1000, FULL, byte_writes),
+    line!("the sum of lost bytes", 1000, FULL, lost_sums),
     line!("CalcCRC, a start", 1000, &[], crc_starts),
-    line!("CalcCRC, per byte written", 1000, &[(COMMAND, 0x12)], crc_bytes),
+    line!("CalcCRC, per byte written", 1000, &[(COMMAND, 0x12)], byte_writes),
     line!("advance by 1 with the timer running", 1000, TIMER_RUNS, single_clocks),
     line!("advance by 1,000 with the timer running", 1000, TIMER_RUNS, thousand_clocks),
     line!("advance by 1, the timer at its end with each clock", 1000, TIMER_ENDS, single_clocks),
@@ -383,13 +402,15 @@ fn timer_lap<B: Bench>(chip: &mut B) -> u64 {
 }
 
 /// The kinds of calls whose instructions tests/instructions counts, by the names that tests/instructions.c has, with the same calls.
-const COUNTED: [Line; 12] = [
+const COUNTED: [Line; 14] = [
     line!("driver-mix", 1000, &[], mix),
     line!("poll", 1000, &[], status_poll),
     line!("poll-receiving", 1000, &[(COMMAND, 0x16)], status_poll),
     line!("fifo-write", 1024, &[], fifo_writes),
+    line!("fifo-full", 1000, FULL, byte_writes),
+    line!("lost-sum", 1000, FULL, lost_sums),
     line!("crc-start", 1000, &[], crc_starts),
-    line!("crc-byte", 1000, &[(COMMAND, 0x12)], crc_bytes),
+    line!("crc-byte", 1000, &[(COMMAND, 0x12)], byte_writes),
     line!("register-read", 1000, &[], register_reads),
     line!("register-write", 1000, &[], register_writes),
     line!("advance", 16_320, TIMER_RUNS, timer_lap),

@@ -1,5 +1,6 @@
 //! Both chips side by side: a call is made on each, and everything that has to agree is compared.
 
+use crate::answer::{self, Answer};
 use crate::call::{first_memory, Call};
 use crate::chip_memory::{difference, place_name, plain_of, reserved_is_zero, Memory};
 use crate::library;
@@ -59,8 +60,29 @@ impl<const FAULT: u8> Session<FAULT> {
         self.plain.is_none().then_some(self.malformed)
     }
 
-    /// Makes a call on both chips. The answer, or what differs.
+    /// Makes a call on both chips, and then the call for the sum of lost bytes. The first one's answer, or what differs.
     pub fn perform(&mut self, call: &Call) -> Result<u32, String> {
+        let answer = self.made(call)?;
+        self.sums_agree()?;
+        Ok(answer)
+    }
+
+    /// The call for the sum of lost bytes: the answer is the plain chip's, 7 where there is none, and not a byte is changed.
+    fn sums_agree(&mut self) -> Result<(), String> {
+        let before = self.guarded.clone();
+        // SAFETY: the chip is whole.
+        let theirs = unsafe { library::mfrc531_lost_sum(self.guarded.memory.as_mut_ptr()) };
+        let ours = answer::of_sum(self.plain.as_ref().map_or(Err(Refusal::ChipMalformed), FaultyChip::lost_sum));
+        if ours != theirs {
+            return Err(format!("the call for the sum of lost bytes: plain answers {ours:08X}h, library {theirs:08X}h{}", self.reason()));
+        }
+        if self.guarded != before {
+            return Err("the call for the sum of lost bytes has changed the library's chip, or memory beside it".to_string());
+        }
+        Ok(())
+    }
+
+    fn made(&mut self, call: &Call) -> Result<u32, String> {
         match call {
             Call::Corrupt { edits } => {
                 if self.saved.is_none() {
@@ -152,7 +174,7 @@ impl<const FAULT: u8> Session<FAULT> {
         }
     }
 
-    /// The plain chip's answer, packed as the library's. `ours` is what lent memory has to hold.
+    /// The plain chip's answer, coded as the library's. `ours` is what lent memory has to hold.
     fn plain_answer(&mut self, call: &Call) -> u32 {
         let ours = &mut self.ours;
         ours.clear();
@@ -171,22 +193,19 @@ impl<const FAULT: u8> Session<FAULT> {
                 Some(plain) => plain.start(image),
                 None => FaultyChip::started(image).map(|plain| self.plain = Some(plain)),
             };
-            return started.err().map_or(0, |refusal| refusal as u32);
+            return answer::of_nothing(started);
         }
         let Some(plain) = &mut self.plain else {
             return Refusal::ChipMalformed as u32;
         };
-        let answer = match call {
-            Call::Read { address } => plain.read(*address).map(|byte| u32::from(byte) << 8),
-            Call::Write { address, byte } => plain.write(*address, *byte).map(|()| 0),
-            Call::Advance { clocks } => plain.advance(*clocks).map(|()| 0),
-            Call::Take { length, .. } => {
-                plain.take(&mut ours[GUARD..GUARD + length]).map(|taken| u32::from(taken.count) << 8 | u32::from(taken.last_bits) << 16)
-            }
-            Call::Deliver { bytes, parities, last_bits } => plain.deliver(bytes, parities, *last_bits).map(|()| 0),
-            Call::Start { .. } | Call::Corrupt { .. } | Call::Mend => Ok(0),
-        };
-        answer.unwrap_or_else(|refusal| refusal as u32)
+        match call {
+            Call::Read { address } => answer::of_byte(plain.read(*address)),
+            Call::Write { address, byte } => answer::of_lost(plain.write(*address, *byte)),
+            Call::Advance { clocks } => answer::of_nothing(plain.advance(*clocks)),
+            Call::Take { length, .. } => answer::of_taken(plain.take(&mut ours[GUARD..GUARD + length])),
+            Call::Deliver { bytes, parities, last_bits } => answer::of_lost(plain.deliver(bytes, parities, *last_bits)),
+            Call::Start { .. } | Call::Corrupt { .. } | Call::Mend => 0,
+        }
     }
 }
 
@@ -200,18 +219,4 @@ fn lend(arena: &mut Vec<u8>, bytes: &[u8]) {
 /// A buffer as it is before a take: neighbours differ.
 fn take_buffer(length: usize, fill: u8) -> Vec<u8> {
     (0..length).map(|place| fill.wrapping_add((place as u8).wrapping_mul(7))).collect()
-}
-
-/// An answer for people.
-pub struct Answer(pub u32);
-
-impl std::fmt::Display for Answer {
-    fn fmt(&self, out: &mut std::fmt::Formatter<'_>) -> std::fmt::Result {
-        let [refusal, value, last_bits, rest] = self.0.to_le_bytes();
-        match (refusal, rest) {
-            (0, 0) => write!(out, "ok, value {value:02X}h, last bits {last_bits}"),
-            _ if self.0 < 0x100 => write!(out, "refusal {refusal}"),
-            _ => write!(out, "{:08X}h", self.0),
-        }
-    }
 }

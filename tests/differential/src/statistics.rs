@@ -1,5 +1,6 @@
 //! What a run has reached, for its last line.
 
+use crate::answer;
 use crate::call::Call;
 use crate::chip_memory::{NO_EDITION, OTHER_TYPE};
 use crate::plain::{error, request, Command, Edition, FaultyChip, Writing};
@@ -23,6 +24,7 @@ pub struct Glance {
     edition: Edition,
     command: Command,
     errors: u8,
+    lost_sum: u16,
     requests: u8,
     runs: bool,
     reads_command_at: u8,
@@ -35,6 +37,7 @@ impl Glance {
             edition: chip.edition,
             command: chip.command,
             errors: chip.errors,
+            lost_sum: chip.lost_sum,
             requests: chip.requests,
             runs: chip.timer.run.is_some(),
             reads_command_at: chip.page & 7,
@@ -72,8 +75,88 @@ pub struct Statistics {
     timer_ends: u64,
     timer_restarts: u64,
     overflows: u64,
+    pub losses: Losses,
     still_formed: u64,
     malformed: u64,
+}
+
+/// Lost bytes and their sums, on well-formed chips.
+#[derive(Default)]
+pub struct Losses {
+    /// Calls that lost bytes: writes of FIFOData, of Command, of ReadE2's last argument; deliveries.
+    pub calls: [u64; 4],
+    pub bytes: u64,
+    /// The most that one call lost.
+    pub most: u8,
+    /// Calls after which the sum is at its limit; those that brought it there, and of them those from 0 on by calls alone; those that lost more than it
+    /// had room for.
+    pub limit: [u64; 4],
+    /// Since the sum was 0, no write into the chip's memory has changed it.
+    alone: bool,
+    /// Sums above 0 that a flush cleared, or a start.
+    pub cleared: [u64; 2],
+    /// Takes, writes of Command and refused calls that left a sum above 0.
+    pub left: [u64; 3],
+    /// Calls on chips whose FIFOOvfl is clear beside a sum above 0, or set beside 0: no start leads there.
+    pub apart: [u64; 2],
+}
+
+impl Losses {
+    /// What stands in the chip after any step of a list, an event or not.
+    fn follow(&mut self, event: bool, before: Option<Glance>, after: Option<Glance>) {
+        let sum = |glance: Option<Glance>| glance.map(|glance| glance.lost_sum);
+        self.alone = sum(after) == Some(0) || self.alone && (event || sum(before) == sum(after));
+    }
+
+    fn count(&mut self, call: &Call, answer: u32, before: Glance, after: Glance) {
+        let lost = answer::lost(answer);
+        let accepted = answer & 0xFF == 0;
+        let commands = before.written_command(call).is_some();
+        let add = |to: &mut u64, holds: bool| *to += u64::from(holds);
+        let (overflowed, summed) = (before.errors & error::OVERFLOW != 0, before.lost_sum > 0);
+        add(&mut self.apart[0], summed && !overflowed);
+        add(&mut self.apart[1], overflowed && !summed);
+        let leaves = summed && after.lost_sum >= before.lost_sum;
+        add(&mut self.left[0], leaves && accepted && matches!(call, Call::Take { .. }));
+        add(&mut self.left[1], leaves && accepted && commands);
+        add(&mut self.left[2], leaves && !accepted);
+        let starts = matches!(call, Call::Start { .. });
+        add(&mut self.cleared[usize::from(starts)], summed && after.lost_sum == 0);
+        let limited = |sum: u16| sum == u16::MAX;
+        add(&mut self.limit[0], limited(after.lost_sum));
+        let reached = limited(after.lost_sum) && !limited(before.lost_sum);
+        add(&mut self.limit[1], reached);
+        add(&mut self.limit[2], reached && self.alone);
+        add(&mut self.limit[3], before.lost_sum.checked_add(lost.into()).is_none());
+        if lost > 0 {
+            let place = match call {
+                Call::Deliver { .. } => 3,
+                _ if commands => 1,
+                _ if before.command == Command::ReadE2 => 2,
+                _ => 0,
+            };
+            self.calls[place] += 1;
+            self.bytes += u64::from(lost);
+            self.most = self.most.max(lost);
+        }
+    }
+}
+
+impl fmt::Display for Losses {
+    fn fmt(&self, out: &mut fmt::Formatter<'_>) -> fmt::Result {
+        let [data, commands, arguments, deliveries] = self.calls;
+        write!(out, "bytes lost by {data} writes of FIFOData, {commands} of Command, {arguments} of ReadE2's last argument and {deliveries} deliveries: ")?;
+        write!(out, "{} bytes, up to {} in a call", self.bytes, self.most)?;
+        let [at, reached, alone, beyond] = self.limit;
+        write!(out, "; their sum at its limit after {at} calls, brought there by {reached}, {alone} times from 0 by calls alone, ")?;
+        write!(out, "and passed by {beyond}")?;
+        let [flushes, starts] = self.cleared;
+        write!(out, "; sums cleared by {flushes} flushes and {starts} starts")?;
+        let [takes, commands, refused] = self.left;
+        write!(out, ", left by {takes} takes, {commands} writes of Command and {refused} refused calls")?;
+        let [clear, set] = self.apart;
+        write!(out, "; calls with a sum above 0 and FIFOOvfl clear {clear}, with a sum of 0 and FIFOOvfl set {set}")
+    }
 }
 
 impl Statistics {
@@ -91,6 +174,7 @@ impl Statistics {
             Call::Mend => 7,
         };
         self.events[event] += 1;
+        self.losses.follow(event < 6, before, after);
         if let Call::Corrupt { .. } = call {
             *(if after.is_some() { &mut self.still_formed } else { &mut self.malformed }) += 1;
         }
@@ -112,6 +196,7 @@ impl Statistics {
             self.changed += u64::from(before.is_some_and(|before| before.edition != after.edition));
         }
         let (Some(before), Some(after)) = (before, after) else { return };
+        self.losses.count(call, answer, before, after);
         if event == 0 || refusal != 0 {
             return;
         }
@@ -170,7 +255,7 @@ impl fmt::Display for Statistics {
         write!(out, ", unknown codes {}", self.unknown)?;
         write!(out, "; programmings ended {}, {} of them into the next", self.programmings, self.chained)?;
         write!(out, "; timer ends {}, {} of them restarted", self.timer_ends, self.timer_restarts)?;
-        write!(out, "; overflows {}", self.overflows)?;
+        write!(out, "; overflows {}; {}", self.overflows, self.losses)?;
         write!(out, "; corruptions: {} malformed, {} not", self.malformed, self.still_formed)
     }
 }

@@ -1,6 +1,7 @@
 //! The plain chip by itself: the numbers of manual 15 and the readings that are easily taken wrong, and some traps beside them.
 
-use crate::call::{Fill, Image};
+use crate::answer;
+use crate::call::{parse, Call, Fill, Image};
 use crate::checksum::bit_by_bit;
 use crate::chip_memory::{difference, place_name, places_of, plain_of, store, Memory, FIELDS, NO_EDITION, OTHER_TYPE, SIZE};
 use crate::plain::{error, fault, key_of, request, stored_nibble, Chip, Command, Edition, Refusal, Taken, Writing, PROGRAMMING_CLOCKS};
@@ -448,7 +449,7 @@ fn frames_out() {
     chip.run(0x1E, &[0x52]);
     assert_eq!(chip.take(&mut buffer), Ok(Taken { count: 1, last_bits: 7 }));
     assert_eq!((chip.get(COMMAND), chip.get(INTERRUPT_RQ), chip.get(0x0F)), (0x1E, request::TX | request::LO_ALERT, 7));
-    assert_eq!(chip.deliver(&[1], &[0], 0), Ok(()));
+    assert_eq!(chip.deliver(&[1], &[0], 0), Ok(0));
     assert_eq!((chip.get(COMMAND), chip.drain()), (0, vec![1]));
 }
 
@@ -476,7 +477,7 @@ fn frames_in() {
         chip.set(0x24, 0x63);
         assert_eq!(chip.deliver(bytes, parities, last_bits), Err(Refusal::NotSendingOrReceiving));
         chip.set(COMMAND, 0x16);
-        assert_eq!(chip.deliver(bytes, parities, last_bits), Ok(()));
+        assert_eq!(chip.deliver(bytes, parities, last_bits), Ok(0));
         assert_eq!((chip.get(ERROR_FLAG), chip.get(SECONDARY_STATUS) & 7), (errors, last_bits));
         assert_eq!((chip.get(COMMAND), chip.get(INTERRUPT_RQ) & 0x0C), (0, request::RX | request::IDLE));
         assert_eq!(chip.drain(), passed);
@@ -496,6 +497,175 @@ fn refusals() {
         assert_eq!(chip.deliver(&vec![0; bytes], &vec![0; parities], last_bits), Err(Refusal::FrameMalformed));
     }
     assert_eq!(chip.deliver(&[0], &[2], 1), Err(Refusal::FrameMalformed));
+}
+
+// ---- Lost bytes ------------------------------------------------------------------------------------------------------------------------
+
+/// A started chip that has lost so many bytes, up to 61, by ReadE2, and holds 64.
+fn chip_that_lost(bytes: u8) -> Chip {
+    let mut chip = chip_with(&numbered_image());
+    chip.run(0x03, &[0, 0, 64 + bytes]);
+    assert_eq!((chip.lost_sum(), chip.fifo.held()), (Ok(bytes.into()), 64));
+    chip
+}
+
+#[test]
+fn lost_in_writes() {
+    let mut chip = chip();
+    for byte in 0..70 {
+        assert_eq!(chip.write(FIFO_DATA, byte), Ok(u8::from(byte >= 64)));
+        assert_eq!(chip.lost_sum(), Ok(u16::from(byte).saturating_sub(63)));
+    }
+    // A byte that a command takes is not lost, and neither are those behind it or left in place.
+    chip = chip_that_lost(1);
+    assert_eq!(chip.write(COMMAND, 0x12), Ok(0));
+    (0..70).for_each(|byte| assert_eq!(chip.write(FIFO_DATA, byte), Ok(0)));
+    chip.run(0x01, &[0x20, 0x00, 0xAA]);
+    (0..66).for_each(|byte| assert_eq!(chip.write(FIFO_DATA, byte), Ok(u8::from(byte >= 64))));
+    assert_eq!((chip.write(COMMAND, 0x03), chip.lost_sum()), (Ok(0), Ok(3)));
+    chip = chip_that_lost(1);
+    chip.drain();
+    chip.fill(&[0; 64]);
+    assert_eq!((chip.write(COMMAND, 0x01), chip.lost_sum(), chip.get(FIFO_LENGTH)), (Ok(0), Ok(1), 62));
+}
+
+/// Where ReadE2 begins and how many it reads, bytes held besides, and how many of all are lost: by the write of its code, and of its last argument.
+#[test]
+fn lost_by_read_e2() {
+    let image = numbered_image();
+    let cases: [(u8, u8, usize, u8); 14] = [
+        (0x00, 128, 61, 125),
+        (0x00, 128, 60, 124),
+        (0x00, 128, 0, 64),
+        (0x00, 65, 0, 1),
+        (0x00, 64, 0, 0),
+        (0x00, 64, 1, 1),
+        (0x00, 4, 61, 1),
+        (0x00, 3, 61, 0),
+        (0x7C, 4, 61, 1),
+        (0x7F, 1, 61, 0),
+        // AccessErr, and a count of 0: nothing is offered.
+        (0x00, 129, 61, 0),
+        (0x01, 128, 61, 0),
+        (0x80, 1, 61, 0),
+        (0x00, 0, 61, 0),
+    ];
+    for (from, count, besides, lost) in cases {
+        let mut chip = chip_with(&image);
+        chip.fill(&[from, 0, count]);
+        chip.fill(&vec![0xEE; besides]);
+        assert_eq!((chip.write(COMMAND, 0x03), chip.lost_sum()), (Ok(lost), Ok(lost.into())), "{from:02X}h {count} {besides}");
+        let works = chip.get(ERROR_FLAG) & error::ACCESS == 0;
+        assert_eq!(usize::from(chip.get(FIFO_LENGTH) + lost), besides + if works { usize::from(count) } else { 0 });
+        assert_eq!(chip.get(ERROR_FLAG) & error::OVERFLOW != 0, lost > 0);
+        if besides == 0 {
+            let mut chip = chip_with(&image);
+            chip.run(0x03, &[from, 0]);
+            assert_eq!((chip.write(FIFO_DATA, count), chip.lost_sum()), (Ok(lost), Ok(lost.into())));
+        }
+    }
+}
+
+/// 22h, bytes held, bytes of the frame and last bits, and how many are lost: a CRC that is dropped is none of them.
+#[test]
+fn lost_in_deliveries() {
+    let cases = [
+        (0x00, 64, 64, 0, 64),
+        (0x00, 64, 1, 0, 1),
+        (0x00, 63, 2, 0, 1),
+        (0x00, 63, 1, 0, 0),
+        (0x00, 0, 64, 0, 0),
+        (0x08, 63, 5, 0, 2),
+        (0x08, 64, 5, 0, 3),
+        (0x08, 62, 5, 0, 1),
+        (0x08, 61, 5, 0, 0),
+        (0x08, 64, 2, 0, 0),
+        (0x08, 64, 1, 0, 1),
+        (0x08, 63, 5, 3, 4),
+        (0x18, 63, 5, 0, 3),
+        (0x18, 64, 1, 0, 0),
+    ];
+    for (mode, held, length, last_bits, lost) in cases {
+        let mut chip = chip();
+        chip.set(0x22, mode);
+        chip.fill(&vec![0x55; held]);
+        chip.set(COMMAND, 0x16);
+        assert_eq!(chip.deliver(&vec![1; length], &vec![0; length], last_bits), Ok(lost), "{mode:02X}h {held} {length} {last_bits}");
+        assert_eq!((chip.lost_sum(), chip.get(ERROR_FLAG) & error::OVERFLOW != 0), (Ok(lost.into()), lost > 0));
+    }
+}
+
+/// From 0 up to 65,535 and beyond; each call answers its whole number.
+#[test]
+fn the_sum_has_a_limit() {
+    let mut chip = chip_with(&numbered_image());
+    for round in 1..=600 {
+        chip.fill(&[0, 0, 128]);
+        chip.fill(&[0xEE; 61]);
+        assert_eq!((chip.write(COMMAND, 0x03), chip.lost_sum()), (Ok(125), Ok((125 * round).min(65_535) as u16)));
+        chip.drain();
+    }
+    chip.lost_sum = 65_534;
+    chip.fill(&[0; 64]);
+    for sum in [65_535, 65_535] {
+        assert_eq!((chip.write(FIFO_DATA, 0), chip.lost_sum()), (Ok(1), Ok(sum)));
+    }
+}
+
+/// A flush and an accepted start clear the sum. No other write does, and no other call.
+#[test]
+fn what_clears_the_sum() {
+    let mut lost = chip_that_lost(7);
+    for address in 0..64 {
+        for byte in 0..=255 {
+            let mut chip = lost.clone();
+            let answer = chip.write(address, byte).unwrap();
+            let flushes = address == CONTROL && byte & 1 != 0;
+            assert_eq!(chip.lost_sum(), Ok(if flushes { 0 } else { 7 + u16::from(answer) }), "{address:02X}h {byte:02X}h");
+            assert_eq!(chip.errors & error::OVERFLOW != 0, !flushes);
+        }
+    }
+    let image = numbered_image();
+    assert!(lost.start(&image[..511]).is_err() && lost.start(&[0; 512]).is_err());
+    assert!(
+        lost.read(64).is_err() && lost.write(64, 1).is_err() && lost.take(&mut [0; 66]).is_err() && lost.deliver(&[1], &[0], 0).is_err()
+    );
+    lost.pass(u32::MAX);
+    lost.set(COMMAND, 0x1E);
+    lost.take(&mut [0; 66]).unwrap();
+    lost.deliver(&[1], &[0], 0).unwrap();
+    (0..64).for_each(|address| assert!(lost.read(address).is_ok()));
+    assert_eq!((lost.get(FIFO_LENGTH), lost.lost_sum()), (0, Ok(7)));
+    lost.start(&image).unwrap();
+    assert_eq!(lost.lost_sum(), Ok(0));
+}
+
+/// From a start on, the sum is what the calls since the latest flush or start have answered, up to its limit, and FIFOOvfl is set where it is above 0.
+#[test]
+fn sums_go_by_the_answers() {
+    let mut random = Random::new(9);
+    let mut lost = 0;
+    for _ in 0..40 {
+        let mut generator = crate::generate::Generator::new(Random::new(random.number()));
+        let mut session = crate::session::Session::<0>::new(1);
+        let mut sum = 0u32;
+        for _ in 0..5_000 {
+            let call = generator.next(session.plain(), session.memory());
+            let clears = match &call {
+                Call::Corrupt { .. } | Call::Mend => continue,
+                Call::Start { .. } => true,
+                Call::Write { address, byte } => session.plain().is_some_and(|chip| chip.register(*address) == CONTROL) && byte & 1 != 0,
+                _ => false,
+            };
+            let answer = session.perform(&call).unwrap();
+            sum = if clears && answer & 0xFF == 0 { 0 } else { (sum + u32::from(answer::lost(answer))).min(65_535) };
+            lost += u32::from(answer::lost(answer));
+            if let Some(chip) = session.plain() {
+                assert_eq!((u32::from(chip.lost_sum), chip.errors & error::OVERFLOW != 0), (sum, sum > 0));
+            }
+        }
+    }
+    assert!(lost > 100_000, "{lost}");
 }
 
 // ---- Editions --------------------------------------------------------------------------------------------------------------------------
@@ -608,8 +778,8 @@ fn stored_and_read_back() {
 fn memory_with(fields: &str) -> Memory {
     let mut memory = Memory([0; SIZE]);
     store(&chip(), 0, memory.chip_mut());
-    let list = crate::call::parse(&format!("corrupt {fields}")).unwrap();
-    let [crate::call::Call::Corrupt { edits }] = &list.calls[..] else { panic!("{fields}") };
+    let list = parse(&format!("corrupt {fields}")).unwrap();
+    let [Call::Corrupt { edits }] = &list.calls[..] else { panic!("{fields}") };
     edits.iter().for_each(|(place, byte)| memory.0[usize::from(*place)] = *byte);
     memory
 }
@@ -704,7 +874,11 @@ fn other_fields_are_judged() {
         "crc_register=FF crc_mode=10",
         "crc_register=FFFF crc_mode=EF",
         "interrupt_en=3F interrupt_rq=3F error_flag=7A page=87 control=30 rx_last_bits=7 key_loaded=1 bit_framing=FF",
-        "reserved_numbers=FFFFFFFFFFFFFFFF reserved_17=FFFFFFFFFFFFFF padding+0=FF padding+1=FF",
+        "lost_sum=1",
+        "lost_sum=FFFF",
+        "lost_sum=FFFF error_flag=50",
+        "error_flag=50",
+        "reserved_numbers=FFFFFFFFFFFF reserved_17=FFFFFFFFFFFFFF padding+0=FF padding+1=FF",
     ];
     let malformed = [
         "timer_running=1",
@@ -795,7 +969,19 @@ fn built_states_notice_wrong_judging() {
     }
     noticed!(FULL_PHASE_IS_WELL_FORMED LEFT_OVER_COUNT_IS_MALFORMED BATCH_WITHOUT_CLOCKS_IS_WELL_FORMED STAGE_01_DOES_NOT_PROGRAM);
     noticed!(STAGE_81_IS_LISTED NEXT_ADDRESS_JUDGED_FOR_WRITE_E2_ALONE RESERVED_IS_JUDGED);
-    noticed!(TYPE_BYTES_ARE_NOT_JUDGED EDITION_ABOVE_1_IS_WELL_FORMED);
+    noticed!(TYPE_BYTES_ARE_NOT_JUDGED EDITION_ABOVE_1_IS_WELL_FORMED SUM_WITHOUT_THE_FLAG_IS_REFUSED);
+}
+
+/// Calls on built states notice what lost bytes and their sum could have wrong.
+#[test]
+fn built_states_notice_wrong_sums() {
+    macro_rules! noticed {
+        ($($fault:ident)*) => {
+            $(assert!(crate::built::worked::<{ fault::$fault }>().is_err(), stringify!($fault));)*
+        };
+    }
+    noticed!(DROPPED_CRC_IS_LOST BYTE_TAKEN_IN_AT_63_IS_LOST LOST_BY_READ_E2_IS_NOT_ANSWERED LOST_IS_ANSWERED_UP_TO_THE_LIMIT);
+    noticed!(SUM_RUNS_OVER SUM_BEGINS_WITH_THE_FLAG TAKE_CLEARS_SUM COMMAND_WRITE_CLEARS_SUM FLUSH_LEAVES_SUM START_LEAVES_SUM);
 }
 
 /// Every byte has a name that leads back to it, and every field a name for all of its bytes.
@@ -810,7 +996,18 @@ fn places_have_names() {
     for name in ["", "core", "stage+1", "latch[10h]", "registers[0Fh]", "registers[30h]", "padding+2", "eeprom[200h]"] {
         assert_eq!(places_of(name), None, "{name}");
     }
-    assert!(crate::call::parse("corrupt stage=100").is_err());
+    assert!(parse("corrupt stage=100").is_err());
+}
+
+/// Repetitions in a list, and within another.
+#[test]
+fn lists_repeat_calls() {
+    let list = parse("read 01\nrepeat 2\nread 02\nrepeat 3\nread 03\nend\nend").unwrap();
+    let addresses: Vec<u8> = list.calls.iter().map(|call| if let Call::Read { address } = call { *address } else { 0 }).collect();
+    assert_eq!(addresses, [1, 2, 3, 3, 3, 2, 3, 3, 3]);
+    for wrong in ["end", "repeat x", "repeat 2\nread 01", "repeat 2\nread 01\nend\nend"] {
+        assert!(parse(wrong).is_err(), "{wrong}");
+    }
 }
 
 // ---- The comparison --------------------------------------------------------------------------------------------------------------------
@@ -824,15 +1021,21 @@ fn planted_faults_are_noticed() {
     }
 }
 
-/// Random lists meet both editions, their change, 22, and 7 because of the edition alone, again and again.
+/// Random lists meet again and again: both editions, their change, 22, and 7 because of the edition alone; bytes that are lost in every way, sums at
+/// their limit, cleared and left, and such as no start leads to.
 #[test]
-fn editions_are_met() {
+fn cases_are_met() {
     let options = crate::Options { calls: 200_000, random: true, ..crate::Options::default() };
     let Ok(statistics) = crate::run::<{ fault::NONE }>(&options) else { panic!("a difference") };
     assert!(statistics.on.iter().all(|calls| *calls > 60_000), "{statistics}");
     assert!(statistics.started.iter().all(|starts| *starts > 300) && statistics.changed > 150, "{statistics}");
     assert!(statistics.refusals[22] > 300, "{statistics}");
     assert!(statistics.by_edition.iter().all(|refused| *refused > 300), "{statistics}");
+    let losses = &statistics.losses;
+    assert!(losses.calls.iter().all(|calls| *calls > 60) && losses.bytes > 100_000 && losses.most == 125, "{statistics}");
+    assert!(losses.limit.iter().zip([300, 20, 0, 100]).all(|(calls, least)| *calls > least), "{statistics}");
+    assert!(losses.cleared.iter().all(|calls| *calls > 60) && losses.left.iter().all(|calls| *calls > 300), "{statistics}");
+    assert!(losses.apart.iter().all(|calls| *calls > 300), "{statistics}");
 }
 
 /// The recorded mix is the list that docs/PERFORMANCE.md describes.
@@ -856,7 +1059,7 @@ fn printed_lists_can_be_read() {
     let mut session = crate::session::Session::<0>::new(1);
     for _ in 0..5_000 {
         let call = generator.next(session.plain(), session.memory());
-        let list = crate::call::parse(&format!("{call} # remark")).unwrap();
+        let list = parse(&format!("{call} # remark")).unwrap();
         assert_eq!(list.calls, std::slice::from_ref(&call));
         assert_eq!(session.perform(&call).err(), None);
     }

@@ -6,6 +6,8 @@ ghost use Rattle.state.specs.Turns.{Sizes};
 ghost use Rattle.state.specs.LostSum.{codedSum, lostSumOf};
 use state::LOST_SUM;
 use state_formed::formed;
+use state_formed::of_own_edition;
+use state_formed::quick;
 
 // The sum in bits 23-8. That it has 16 bits is known of a parameter by value, and not of an element that is loaded.
 fn coded_sum(sum: u16) -> u32
@@ -26,8 +28,10 @@ pub fn lost_sum<'a>(
         (now (eeprom .entry)) in
         ⌜ ((c : Chip) → Sizes (lent c) → r ≡ lostSumOf (lent c)) ⌝ }
 {
-    if !formed(clocks, numbers, state, eeprom) {
-        return 7;
+    if !quick(clocks, numbers, state) || !of_own_edition(state, eeprom) {
+        if !formed(clocks, numbers, state, eeprom) {
+            return 7;
+        }
     }
     coded_sum(numbers[LOST_SUM])
 }

@@ -7,7 +7,7 @@ ghost use mathlib.Core.List.{[]};
 ghost use Rattle.profile_choice.specs.Choice.{chosen};
 ghost use Rattle.machine.specs.Refusals.{start, hostRead, hostWrite, advance, takeFrame, deliver};
 ghost use Rattle.state.specs.Meets.{Meets};
-ghost use Rattle.state.specs.LostSum.{MeetsSum};
+ghost use Rattle.state.specs.LostSum.{lostSumOf};
 ghost use Rattle.profile_number.specs.Numbers.{profileNumber};
 ghost use Rattle.entry_in_place.specs.Numbers.{judgedFor, choiceNumber};
 use edition::Edition;
@@ -132,10 +132,10 @@ pub extern "C" fn mfrc531_deliver(
     )
 }
 
-// The sum of lost bytes. The chip stays as it is.
+// The sum of lost bytes, of a chip that is lent to read.
 #[no_mangle]
-pub extern "C" fn mfrc531_lost_sum(chip: &mut Chip) -> u32
-    ensures { λ r. ⌜ MeetsSum (now (chip .entry)) (now (chip .exit)) r ⌝ }
+pub extern "C" fn mfrc531_lost_sum(chip: &Chip) -> u32
+    ensures { λ r. ⌜ r ≡ lostSumOf (now (chip .entry)) ⌝ }
 {
     query_lost_sum::lost_sum(&chip.clocks, &chip.numbers, &chip.state, &chip.eeprom)
 }

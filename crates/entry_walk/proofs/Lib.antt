@@ -1,4 +1,5 @@
 pub mod Arrays
 pub mod Beside
 pub mod InPlace
+pub mod Shared
 pub mod TypeLaws

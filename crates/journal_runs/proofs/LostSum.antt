@@ -2,7 +2,7 @@
 -- Assumes nothing.
 use Prim.Native.Nat.{ℕ}
 use mathlib.Core.Bool.{Bool, cond}
-use mathlib.Core.Path.{_≡_, refl, ap, _∙_}
+use mathlib.Core.Path.{_≡_, ap, _∙_}
 use Rattle.state.specs.View.{view}
 use Rattle.state.specs.Formed.{chipFormed}
 use Rattle.state.specs.LostSum.{codedSum, lostSumOf}
@@ -10,10 +10,10 @@ use Rattle.state.specs.declared.Chip.{Chip}
 use Rattle.journal_runs.specs.LostSum.{Asked, in-place, by-value, ProgramLostSum}
 use Rattle.journal_runs.proofs.Kept.{program-demand-3}
 
--- Both forms answer the same, and leave the chip.
-asked : {c next : Chip} {answer : ℕ} → Asked c answer next → (answer ≡ lostSumOf c) × (next ≡ c)
-asked (in-place κs chip chip′ r promise) = promise
-asked (by-value chip r promise) = (promise, refl)
+-- Both forms answer the same.
+asked : {c : Chip} {answer : ℕ} → Asked c answer → answer ≡ lostSumOf c
+asked (in-place κs chip r promise) = promise
+asked (by-value chip r promise) = promise
 
 -- The answer, by whether the chip is well formed.
 by-formed : (c : Chip) (t : Bool) → chipFormed c ≡ t → lostSumOf c ≡ cond t (codedSum (view c .lostSum)) 7
@@ -24,9 +24,8 @@ pub program-lost-sum : ProgramLostSum
 program-lost-sum =
     record {
       answers =
-          λ image old fresh c next steps answer begins runs call.
+          λ image old fresh c steps answer begins runs call.
           let kept = program-demand-3 .holds image old fresh c steps begins runs in
-          asked call .0 ∙ by-formed c _ (kept .formed) ∙ ap codedSum (kept .conserved .lost-sum);
-      refuses = λ c next answer call bad. asked call .0 ∙ by-formed c _ bad;
-      changes-nothing = λ c next answer call. asked call .1;
+          asked call ∙ by-formed c _ (kept .formed) ∙ ap codedSum (kept .conserved .lost-sum);
+      refuses = λ c answer call bad. asked call ∙ by-formed c _ bad;
     }

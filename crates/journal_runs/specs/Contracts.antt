@@ -20,7 +20,7 @@ use denote.Triple.Clauses.{Ended, AtExit}
 use denote.Triple.Spec.{Spec, exits}
 use Rattle.machine.specs.Refusals.{start, hostRead, hostWrite, advance, takeFrame, deliver}
 use Rattle.state.specs.Meets.{Meets}
-use Rattle.state.specs.LostSum.{lostSumOf, MeetsSum}
+use Rattle.state.specs.LostSum.{lostSumOf}
 use Rattle.entry_in_place.proofs.mfrc531_start as mfrc531-start
 use Rattle.entry_in_place.proofs.mfrc531_read as mfrc531-read
 use Rattle.entry_in_place.proofs.mfrc531_write as mfrc531-write
@@ -130,7 +130,7 @@ deliver-by-value = record {
 -- The call for the sum of lost bytes.
 abbrev pub sum-in-place : Promised mfrc531-lost-sum.ended (λ M. mfrc531-lost-sum.spec {M = M})
 sum-in-place = record {
-  Promise = λ κs (chip, _) r (chip′, _). MeetsSum (now chip) (now chip′) r;
+  Promise = λ κs (chip, _) r exit. r ≡ lostSumOf (now chip);
   whole-contract = λ M 𝓤 H A mem run κs args. refl;
 }
 

@@ -15,17 +15,15 @@ use Rattle.journal_runs.specs.Contracts as contracts
 use denote.Ref.{RefT, now}
 use contract.Lifetimes.{Lfts}
 
--- The call on a chip, with its answer and the chip that it leaves. By value the chip is the caller's, and no other is handed back.
-pub data Asked : Chip → ℕ → Chip → Type 0 where
-  in-place : (κs : Lfts 1) (chip chip′ : RefT Chip) (r : ℕ) → contracts.sum-in-place .Promise κs (chip, tt) r (chip′, tt) → Asked (now chip) r (now chip′)
-  by-value : (chip : Chip) (r : ℕ) → contracts.sum-by-value .Promise tt (chip, tt) r (chip, tt) → Asked chip r chip
+-- The call on a chip, with its answer. In place the chip is lent to read, by value it is the caller's: no form has a chip that it could change.
+pub data Asked : Chip → ℕ → Type 0 where
+  in-place : (κs : Lfts 1) (chip : RefT Chip) (r : ℕ) → contracts.sum-in-place .Promise κs (chip, tt) r (chip, tt) → Asked (now chip) r
+  by-value : (chip : Chip) (r : ℕ) → contracts.sum-by-value .Promise tt (chip, tt) r (chip, tt) → Asked chip r
 
 pub record ProgramLostSum : Type 0 where
   -- after a start that succeeds and any run: every byte that the journal has turned away since the last flush or start, up to 65,535
   pub answers :
-      (image : List ℕ) (old fresh c next : Chip) (steps : List Step) (answer : ℕ) → Called old (step (start image) 0 [] fresh) → Run fresh steps c → Asked c answer next →
+      (image : List ℕ) (old fresh c : Chip) (steps : List Step) (answer : ℕ) → Called old (step (start image) 0 [] fresh) → Run fresh steps c → Asked c answer →
       answer ≡ codedSum (min 65_535 (awayFrom 0 (run image (callsOf steps) .journal .entries)))
   -- of any chip: a malformed one is refused with 7
-  pub refuses : (c next : Chip) (answer : ℕ) → Asked c answer next → chipFormed c ≡ false → answer ≡ 7
-  -- and it changes nothing
-  pub changes-nothing : (c next : Chip) (answer : ℕ) → Asked c answer next → next ≡ c
+  pub refuses : (c : Chip) (answer : ℕ) → Asked c answer → chipFormed c ≡ false → answer ≡ 7

@@ -1,8 +1,8 @@
--- The call for the sum of lost bytes (manual 9.9). It is no event: it has no answer among those of the events, changes nothing, and enters nothing in the journal.
+-- The call for the sum of lost bytes (manual 9.9). It is no event: it has no answer among those of the events, and enters nothing in the journal. A chip is lent to
+-- it to read, or given by value, so that it changes none.
 -- Assumes nothing.
 use Prim.Native.Nat.{ℕ, _*_}
 use mathlib.Core.Bool.{cond}
-use mathlib.Core.Path.{_≡_}
 use Rattle.state.specs.View.{view}
 use Rattle.state.specs.Formed.{chipFormed}
 use Rattle.state.specs.declared.Chip.{Chip}
@@ -13,7 +13,3 @@ codedSum n = 0x100 * n
 
 unfoldable pub lostSumOf : Chip → ℕ
 lostSumOf c = cond (chipFormed c) (codedSum (view c .lostSum)) 7
-
--- What it promises of a chip lent: the answer, and that the chip is as it was.
-abbrev pub MeetsSum : Chip → Chip → ℕ → Type 0
-MeetsSum c next answer = (answer ≡ lostSumOf c) × (next ≡ c)

@@ -1,7 +1,7 @@
 // The delivery of a frame that the chip receives (manual 9.6).
 //
-// The timer is stopped where TimerControl (2Bh) says so, the frame is judged, the bytes that pass are offered to the FIFO, RxIRq is set, and the command ends. How many of them were lost is
-// answered.
+// The timer is stopped where TimerControl (2Bh) says so, the frame is judged, the bytes that pass are offered to the FIFO, RxIRq is set, and the command ends.
+// How many of the bytes were lost is answered.
 ghost use Prim.Native.Nat.{_≤_};
 ghost use mathlib.Core.List.{[]};
 ghost use lib.ListN.{length};

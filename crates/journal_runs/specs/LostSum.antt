@@ -21,9 +21,9 @@ pub data Asked : Chip → ℕ → Type 0 where
   by-value : (chip : Chip) (r : ℕ) → contracts.sum-by-value .Promise tt (chip, tt) r (chip, tt) → Asked chip r
 
 pub record ProgramLostSum : Type 0 where
-  -- behind a start that answered 0 and any run: every byte that the journal has turned away since the last flush or start, up to 65,535
+  -- after a start that succeeds and any run: every byte that the journal has turned away since the last flush or start, up to 65,535
   pub answers :
       (image : List ℕ) (old fresh c : Chip) (steps : List Step) (answer : ℕ) → Called old (step (start image) 0 [] fresh) → Run fresh steps c → Asked c answer →
       answer ≡ codedSum (min 65_535 (awayFrom 0 (run image (callsOf steps) .journal .entries)))
-  -- of any chip: a malformed one is refused with 7
+  -- of any chip: where it is malformed, the answer is 7
   pub refuses : (c : Chip) (answer : ℕ) → Asked c answer → chipFormed c ≡ false → answer ≡ 7

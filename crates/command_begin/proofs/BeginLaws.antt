@@ -2,34 +2,17 @@
 -- Assumes nothing.
 use Prim.Native.Nat.{ℕ, _%_}
 use mathlib.Core.Path.{_≡_, refl, sym, ap, _∙_}
-use mathlib.Core.Bool.{Bool, true, false, cond, not, and-false, _&&_}
-use mathlib.Core.List.{List}
-use lib.Dec.{eqb, lit<}
+use mathlib.Core.Bool.{true, false}
+use lib.Dec.{lit<}
 use lib.ListN.{set}
 use borrow.Author.Tests.{ne-eqb}
-use Rattle.machine.specs.State.{Machine, Writing, WriteE2, addressing, ready, programming, withChecksum}
+use Rattle.machine.specs.State.{Machine, withChecksum}
 use Rattle.machine.specs.Commands.{programs, clearedErrors, ended, commandStarted, commandWritten}
-use Rattle.state.specs.View.{Core, commandOf, view, viewOf, withNumbers}
-use Rattle.state.specs.Formed.{writes}
+use Rattle.state.specs.View.{view, viewOf, withNumbers}
 use Rattle.state.specs.Turns.{Sizes, Turned}
 use Rattle.state.specs.declared.Chip.{Chip}
-use Rattle.state.proofs.StageLaws.{by-stage}
 use Rattle.state.proofs.StoreLaws.{set-number}
 use Rattle.state.proofs.TurnLaws.{becomes}
-
--- A WriteE2 programs where clocks are left, and no other command does.
-by-left : (none : Bool) (resting : Writing) (a : ℕ) (bs : List ℕ) (left : ℕ) → programs (WriteE2 resting) ≡ false →
-    programs (WriteE2 (cond none resting (programming a bs left))) ≡ (not none && true)
-by-left true resting a bs left rests = rests
-by-left false resting a bs left rests = refl
-
-pub stage-programs : (k : Core) (latch : List ℕ) → programs (commandOf k latch) ≡ (not (eqb (k .left) 0) && writes (k .stage))
-stage-programs k latch =
-    by-stage (λ s command. programs command ≡ (not (eqb (k .left) 0) && writes s)) k latch (by-left (eqb (k .left) 0) addressing _ _ _ refl) (by-left (eqb (k .left) 0) (ready _) _ _ _ refl)
-    none none none none none none none none none (λ o. none ∙ sym (simp (o .n01, o .n41)))
-  where
-    none : false ≡ (not (eqb (k .left) 0) && false)
-    none = sym (and-false (not (eqb (k .left) 0)))
 
 -- The CRC register, and the mode, become numbers.
 abbrev pub withMode : ℕ → Machine → Machine

@@ -3,9 +3,9 @@
 ghost use mathlib.Core.Path.{_≡_};
 ghost use mathlib.Core.Bool.{true};
 ghost use Rattle.machine.specs.State.{withCommand};
-ghost use Rattle.machine.specs.Commands.{programs as Commands·programs, checksumStarted, commandStarted, commandWritten};
+ghost use Rattle.machine.specs.Commands.{checksumStarted, commandStarted, commandWritten};
 ghost use Rattle.state.specs.Lent.{clocksState, numbersStateRegisters, clocksNumbersStateRegisters};
-ghost use Rattle.state.specs.Turns.{Turns, Reads};
+ghost use Rattle.state.specs.Turns.{Turns};
 ghost use Rattle.command_begin.specs.Begins.{begins, begun as Begins·begun};
 use state::CRC_MODE;
 use state::CRC_REGISTER;
@@ -14,19 +14,7 @@ use state::LEFT;
 use state::STAGE;
 use state::cleared;
 use state::ended;
-
-// A programming runs: WriteE2 is active, with its address or without, and clocks are left.
-pub fn programs(clocks: &[u32; 2], state: &[u8; 24]) -> bool
-    ensures { λ r.
-        let lent = clocksState (now (clocks .entry)) (now (state .entry)) in
-        ⌜ Reads (λ m. Commands·programs (m .command)) lent r ⌝ }
-{
-    if clocks[LEFT] == 0 {
-        return false;
-    }
-    let stage = state[STAGE];
-    (stage == 0x01) | (stage == 0x41)
-}
+use state::programs;
 
 // CalcCRC starts: it reads its mode and presets. The mode is stored only where it is another: it lies in a word that is judged at every host access, and a
 // store delays the load of that word.

@@ -14,7 +14,7 @@ use Rattle.state.specs.View.{at, heldFrom, view, viewOf}
 use Rattle.state.specs.Lent.{numbersStateSlots}
 use Rattle.state.specs.Turns.{Counts, Turns}
 use Rattle.state.proofs.RingLaws.{held-length, held-at}
-use Rattle.state.proofs.StoreLaws.{at-set, stored, stage-agrees, bytes-agree}
+use Rattle.state.proofs.StoreLaws.{at-set, stored, stage-agrees, others-agree}
 use Rattle.state.proofs.TurnLaws.{sized-numbers}
 
 -- The next byte is absorbed, and the last.
@@ -42,4 +42,4 @@ sum-stored numbers l slots n x p is c sizes =
     stored (numbersStateSlots (set numbers 0 x) l slots c) refl (at-set numbers 0 x (omega (arith, sizes .number-count))) refl summed old
     (sized-numbers sizes (set numbers 0 x) (length-set numbers 0 x ∙ sizes .number-count))
     (ap (λ (k : ℕ). withChecksum (record { register = k; mode = at l 5 }) (view old)) (is ∙ ap (λ (k : ℕ). absorbedAll (at l 5) (at numbers 0) (heldFrom slots (at l 13) k)) (p .counted)))
-    (λ formed. both (stage-agrees old formed) (bytes-agree old formed))
+    (λ formed. both (stage-agrees old formed) (others-agree old formed))

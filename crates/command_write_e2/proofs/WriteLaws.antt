@@ -20,7 +20,7 @@ use Rattle.state.specs.Formed.{stageFormed}
 use Rattle.state.specs.Turns.{Counts, Sizes, Turned, Turns}
 use Rattle.state.specs.declared.Chip.{Chip}
 use Rattle.state.proofs.RingLaws.{held-last, count-length}
-use Rattle.state.proofs.StoreLaws.{at-set, at-set-two, stored, bytes-agree}
+use Rattle.state.proofs.StoreLaws.{at-set, at-set-two, stored, others-agree}
 use Rattle.state.proofs.TurnLaws.{then, becomes, sized-clocks, sized-numbers, sized-state, sized-latch}
 use Rattle.command_write_e2.specs.Latched.{latchedFrom}
 
@@ -103,7 +103,7 @@ module _ (clocks numbers l l′ slots latch latch′ : List ℕ) (left next latc
       (set numbers 1 next) (length-set numbers 1 next ∙ sizes .number-count))
       (set clocks 1 left) (length-set clocks 1 left ∙ sizes .clock-count))
       (ap (λ (x : Writing). withCommand (WriteE2 x) (view old)) is)
-      (λ formed. both agrees (bytes-agree old formed)) in
+      (λ formed. both agrees (others-agree old formed)) in
       then stores (leaves (after written) (stores .sizes))
 
 -- With its address, below 010h: it may not write there.

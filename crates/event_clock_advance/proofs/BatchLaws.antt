@@ -21,7 +21,7 @@ use Rattle.state.specs.Formed.{listed, writes, batchFits, agree, fieldsFormed}
 use Rattle.state.specs.Turns.{Sizes, Turned, Turns}
 use Rattle.state.specs.declared.Chip.{Chip}
 use Rattle.state.proofs.StageLaws.{by-stage}
-use Rattle.state.proofs.StoreLaws.{put, at-set, at-set-two, stored, stage-agrees, next-near, bytes-agree}
+use Rattle.state.proofs.StoreLaws.{put, at-set, at-set-two, stored, stage-agrees, next-near, others-agree}
 use Rattle.state.proofs.TurnLaws.{sized-clocks, sized-state, sized-eeprom}
 use Rattle.event_clock_advance.specs.Clock.{storedWrapped, programmingLeft}
 
@@ -103,7 +103,7 @@ batch-turns clocks numbers l slots latch eeprom after fits near is size c sizes 
     (sized-clocks (sized-state (sized-eeprom sizes after size) written (length-set (set l 10 0) 12 0x41 ∙ length-set l 10 0 ∙ sizes .state-count)) (set clocks 1 0) (length-set clocks 1 0 ∙ sizes .clock-count))
     (ap (λ (n : ℕ). withCommand (WriteE2 (ready n)) (withEeprom after (view old))) (batch-next next latched fits near latch (sizes .latch-count))
     ∙ ap (λ (es : List ℕ). withCommand (WriteE2 (ready ((batchStart next latched + length (take latched latch)) % 0x200))) (withEeprom es (view old))) is)
-    (λ formed. both (next-near old formed) (bytes-agree old formed))
+    (λ formed. both (next-near old formed) (others-agree old formed))
 
 -- Clocks are left exactly where WriteE2 programs a batch that fits.
 pub programs-here : (c : Chip) → fieldsFormed c ≡ true → (core c .left ≡ 0 → ⊥) → (writes (core c .stage) ≡ true) × (batchFits (core c .next) (core c .latched) ≡ true)
@@ -142,4 +142,4 @@ left-turns c n sizes formed some more =
     (ap (λ (d : Command). withCommand d (view c)) (is-programming counted (c .latch) writing (omega arith))
     ∙ sym (ap (λ (d : Command). whileProgramming (λ a bs left. withCommand (WriteE2 (programming a bs n)) (view c)) (view c) d) (is-programming k (c .latch) writing some)))
     (λ h. both (both (each (listed (k .stage)) _ (stage-agrees c h) .0)
-    (both (ap (λ (t : Bool). agree t (writes (k .stage) && batchFits (k .next) (k .latched))) (lt-ltb 0 n (omega arith)) ∙ both writing fits) (next-near c h))) (bytes-agree c h))
+    (both (ap (λ (t : Bool). agree t (writes (k .stage) && batchFits (k .next) (k .latched))) (lt-ltb 0 n (omega arith)) ∙ both writing fits) (next-near c h))) (others-agree c h))

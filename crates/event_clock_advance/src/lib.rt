@@ -10,10 +10,12 @@ use state_formed::of_own_edition;
 use state_formed::quick;
 
 mod clock;
+mod modes;
 mod programming;
 mod timer;
 
-// An advance by any number of clocks: they reach the timer and the programming of WriteE2, and the alerts are judged over them all.
+// An advance by any number of clocks: they reach the timer and the programming of WriteE2, but where a power mode has hold, and the alerts are judged over them
+// all.
 pub fn advance<'a>(
     clocks: &'a mut [u32; 2],
     numbers: &'a mut [u16; 6],

@@ -23,6 +23,7 @@ use state::failed;
 use state::losing;
 use state::receives;
 use state::requested;
+use state::stands_still;
 use state_fifo::alerted;
 use state_fifo::alerts_of;
 use state_fifo::flag;
@@ -112,6 +113,9 @@ pub fn deliver<'a, 'b, 'c>(
         return 5;
     }
     if !receives(state) {
+        return 4;
+    }
+    if stands_still(numbers) {
         return 4;
     }
     let before = alerts_of(state, registers);

@@ -16,6 +16,7 @@ use state::BIT_FRAMING;
 use state::READ;
 use state::frame_waits;
 use state::held;
+use state::stands_still;
 use state_formed::formed;
 
 mod sent; // sent.rt: what the chip is once its frame is taken
@@ -106,6 +107,9 @@ pub fn take<'a, 'b>(
         return 6;
     }
     if !frame_waits(state) {
+        return 4;
+    }
+    if stands_still(numbers) {
         return 4;
     }
     let last_bits = state[BIT_FRAMING] % 8;

@@ -1,22 +1,24 @@
 -- Laws of what bytes of the state show: a source that two bytes of interrupts have in common, the byte that flags make, a stage's code, and the stages that
 -- neither send nor receive.
 -- Assumes nothing.
-use Prim.Native.Nat.{ℕ, _%_, _<_}
+use Prim.Native.Nat.{ℕ, _+_, _*_, _/_, _%_, _<_}
 use native.Mathlib.Omega.{arith}
 use mathlib.Core.Path.{_≡_, refl, sym, ap, _∙_}
 use mathlib.Core.Bool.{Bool, true, false, cond, not, and-comm, _&&_, _||_}
 use mathlib.Core.List.{List}
 use lib.Bits.{bitAnd, and-le-l}
-use lib.Dec.{eqb}
+use lib.Dec.{T, eqb}
 use borrow.Author.Tests.{eqb-true, ne-eqb}
 use Rattle.bits.specs.Bits.{bitSet}
-use Rattle.bits.proofs.Below.{agree}
+use Rattle.bits.proofs.Below.{all, agree}
 use Rattle.machine.specs.Commands.{codeOf}
 use Rattle.machine.specs.Frames.{sending, receiving}
-use Rattle.machine.specs.Registers.{flag, interruptByte, errorByte}
-use Rattle.state.specs.View.{Core, interruptsOf, errorsOf, commandOf}
+use Rattle.machine.specs.Registers.{flag, interruptByte, errorByte, controlByte}
+use Rattle.machine.proofs.WellFormed.Parts.{each}
+use Rattle.state.specs.View.{Core, interruptsOf, errorsOf, modeOf, commandOf}
 use Rattle.state.specs.Formed.{listed, byteFormed}
 use Rattle.state.proofs.FlagLaws.{and-bit}
+use Rattle.state.proofs.PowerLaws.{mode-reads}
 use Rattle.state.proofs.StageLaws.{Other, by-stage, stage-sends, stage-receives}
 
 -- A number of six bits is not 0 exactly where one of them is 1.
@@ -48,13 +50,23 @@ common-set x y h = any-set (bitAnd x y) (omega (arith, and-le-l x y)) ∙ simp (
     shared : (k : ℕ) → bitSet (bitAnd x y) k ≡ (bitSet x k && bitSet y k)
     shared k = and-bit x y k ∙ and-comm (bitSet y k) (bitSet x k)
 
--- InterruptEn, InterruptRq and ErrorFlag are the bytes that their flags make.
+-- InterruptEn and InterruptRq are the bytes that their flags make.
 pub interrupt-byte : (x : ℕ) → x < 64 → x ≡ interruptByte (interruptsOf x)
 interrupt-byte x h = agree (λ n. n) (λ n. interruptByte (interruptsOf n)) 64 tt x h
 
+-- A byte that is formed is what a function makes of it, from one test that the checker computes. ErrorFlag is the byte that its flags make, and Control the
+-- one that the bits of the power modes make, whatever their numbers are.
+where-formed : (k : ℕ) (f : ℕ → ℕ) → T (all (λ n. eqb n (cond (byteFormed k n) (f n) n)) 256) → (x : ℕ) → x < 256 → byteFormed k x ≡ true → x ≡ f x
+where-formed k f t x h formed = agree (λ n. n) (λ n. cond (byteFormed k n) (f n) n) 256 t x h ∙ ap (λ (b : Bool). cond b (f x) x) formed
+
 pub error-byte : (x : ℕ) → x < 256 → byteFormed 7 x ≡ true → x ≡ errorByte (errorsOf x)
-error-byte x h formed =
-    agree (λ n. n) (λ n. cond (byteFormed 7 n) (errorByte (errorsOf n)) n) 256 tt x h ∙ ap (λ (t : Bool). cond t (errorByte (errorsOf x)) x) formed
+error-byte = where-formed 7 (λ n. errorByte (errorsOf n)) tt
+
+pub control-byte : (x standBy powerDown : ℕ) → byteFormed 1 x ≡ true → x ≡ controlByte (record { standBy = modeOf (bitSet x 5) standBy; powerDown = modeOf (bitSet x 4) powerDown })
+control-byte x standBy powerDown formed =
+    let high = eqb-true (x / 64) 0 (each (eqb (x % 16) 0) _ formed .1) in
+    where-formed 1 (λ n. 32 * flag (bitSet n 5) + 16 * flag (bitSet n 4)) tt x (omega (arith, high)) formed
+    ∙ sym (λ i. 32 * flag (mode-reads (bitSet x 5) standBy i) + 16 * flag (mode-reads (bitSet x 4) powerDown i))
 
 -- The code of a listed stage's command is in bits 5-0.
 pub stage-code : (k : Core) (latch : List ℕ) → listed (k .stage) ≡ true → k .stage % 64 ≡ codeOf (commandOf k latch)

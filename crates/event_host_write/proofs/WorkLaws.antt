@@ -23,7 +23,7 @@ use Rattle.state.specs.View.{Core, core, commandOf, view, viewOf, withState}
 use Rattle.state.specs.Formed.{agree}
 use Rattle.state.specs.Turns.{Sizes, Turned}
 use Rattle.state.specs.declared.Chip.{Chip}
-use Rattle.state.proofs.StoreLaws.{at-set, stored, next-near, bytes-agree}
+use Rattle.state.proofs.StoreLaws.{at-set, stored, next-near, others-agree}
 use Rattle.state.proofs.TurnLaws.{then, sized-state}
 use Rattle.state_fifo.specs.Alerts.{alertsOf, alertedFrom}
 use Rattle.state_fifo.proofs.FifoLaws.{offer-stored, none-lost}
@@ -116,7 +116,7 @@ unfolding viewOf
 checksum-staged c none sizes =
     stored (withState (set (c .state) 12 0x12) c) refl refl (at-set (c .state) 12 0x12 (omega (arith, sizes .state-count))) (withCommand CalcCRC) c
     (sized-state sizes (set (c .state) 12 0x12) (length-set (c .state) 12 0x12 ∙ sizes .state-count)) refl
-    (λ formed. both (both (ap (λ (n : ℕ). agree (ltb 0 n) false) none) (next-near c formed)) (bytes-agree c formed))
+    (λ formed. both (both (ap (λ (n : ℕ). agree (ltb 0 n) false) none) (next-near c formed)) (others-agree c formed))
 
 -- Any other write leaves the command, and leaves the held bytes or none of them, so that nothing pends after it.
 module _ (m : Machine) where

@@ -21,9 +21,9 @@ use Rattle.state.specs.Formed.{writes, chipFormed}
 use Rattle.state.specs.Turns.{Turned}
 use Rattle.state.specs.Meets.{coded, Meets, Whole}
 use Rattle.state.specs.declared.Chip.{Chip}
+use Rattle.state.proofs.StageLaws.{stage-programs}
 use Rattle.state.proofs.TurnLaws.{becomes}
 use Rattle.state.proofs.MeetLaws.{write-refusal, own-fields-formed, machine-formed, accepted-here}
-use Rattle.command_begin.proofs.BeginLaws.{stage-programs}
 use Rattle.register_write.specs.Written.{otherWritten}
 use Rattle.event_host_write.specs.Summing.{byteSummed, checksumBegun, onlyBegins}
 use Rattle.event_host_write.proofs.WorkLaws.{byte-waits, byte-waiting-loses, byte-summed, byte-summed-loses, checksum-begins, begun-loses, other-settles, other-loses}

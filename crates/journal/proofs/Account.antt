@@ -3,7 +3,7 @@
 use mathlib.Core.Path.{_≡_, refl, sym, ap, _∙_, subst}
 use mathlib.Core.Bool.{Bool, true, false, cond, not, _&&_, _||_, true≢false, false≢true}
 use mathlib.Core.List.{List, [], _∷_, _++_, map, append-assoc, append-nil, append-cancel-left, append-cancel-right, head-eq-of-cons-eq, tail-eq-of-cons-eq}
-use Prim.Native.Nat.{ℕ, suc, _+_}
+use Prim.Native.Nat.{ℕ, suc}
 use native.Mathlib.Omega.{arith}
 use lib.Dec.{ltb, eqb}
 use lib.ListN.{length, take, drop, drop-of-length-le}
@@ -246,7 +246,7 @@ module _ (image : List ℕ) (m : Machine) (j : Journal) (a : AgreesWith image m 
   take-parts buffer ok next =
       let xs = map (e.left e.frame) (j .held) ++ e.tookFrame ∷ [] in
       let rest = passed-test (ltb (length buffer) 66) 5 _ (passed-test (not (wellFormed m)) 6 _ ok .1) .1 in
-      let sends = not-false _ (or-first _ _ (passed-test (not (sending (m .command)) || eqb (length (m .held)) 0) 3 0 rest .0)) in
+      let sends = not-false _ (or-first _ _ (passed-test (not (sending (m .command)) || eqb (length (m .held)) 0) 3 _ rest .0)) in
       let frames : collect (bytesTo e.frame) xs ≡ j .held =
       collect-append (bytesTo e.frame) (map (e.left e.frame) (j .held)) (e.tookFrame ∷ [])
       ∙ ap (λ (z : List ℕ). z ++ []) (map-all (bytesTo e.frame) (e.left e.frame) (λ b. refl) (j .held))
@@ -268,7 +268,7 @@ module _ (image : List ℕ) (m : Machine) (j : Journal) (a : AgreesWith image m 
   unfolding delivered received alerted refusal
   deliver-parts bytes parities lastBits ok =
       let rest = passed-test (not (frameFormed bytes parities lastBits)) 4 _ (passed-test (not (wellFormed m)) 6 _ ok .1) .1 in
-      let waits = receiving-latch image (m .command) (not-false _ (passed-test (not (receiving (m .command))) 3 0 rest .0)) in
+      let waits = receiving-latch image (m .command) (not-false _ (passed-test (not (receiving (m .command))) 3 _ rest .0)) in
       let l = offers-add Apart moved (passed m bytes lastBits) j in
       inside-parts (deliver bytes parities lastBits) (delivered bytes parities lastBits m) _ (l .entries) (l .appended) (apart-inside (l .entries) (l .each)) (λ n is. no-refusal (deliver bytes parities lastBits) n ok is)
       (no-read (deliver bytes parities lastBits) refl) (same-waiting (l .entries) (delivered bytes parities lastBits m) (none-of Apart memoryBytes (λ x p. p .of-memory) (l .entries) (l .each)) waits)

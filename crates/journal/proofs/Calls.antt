@@ -3,22 +3,23 @@
 use mathlib.Core.Path.{_≡_, refl, sym, ap, _∙_, subst}
 use mathlib.Core.Bool.{Bool, true, false, cond, _&&_, true≢false, false≢true}
 use mathlib.Core.List.{List, [], _∷_, _++_, map}
-use Prim.Native.Nat.{ℕ, zero, suc, _+_, _-_, _*_, _%_}
+use Prim.Native.Nat.{ℕ, zero, suc, _-_, _%_}
 use lib.Dec.{ltb, leb, eqb}
 use lib.ListN.{length, drop, set}
 use borrow.Author.Tests.{eqb-true}
-use Rattle.bits.specs.Bits.{bit, bitSet}
+use Rattle.bits.specs.Bits.{bitSet}
 use Rattle.crc.specs.Checksum.{presetOf, afterBytes}
-use Rattle.machine.specs.State.{Machine, Checksum, Command, Idle, WriteE2, ReadE2, LoadConfig, LoadKeyE2, LoadKey, CalcCRC, Transmit, Receive, TransceiveSending, TransceiveReceiving, addressing, ready, programming, withCommand, withHeld, withEnables, withRequests, withControl, withBitFraming, withRegisters, withRxLastBits}
+use Rattle.machine.specs.State.{Machine, Checksum, Command, Idle, WriteE2, ReadE2, LoadConfig, LoadKeyE2, LoadKey, CalcCRC, Transmit, Receive, TransceiveSending, TransceiveReceiving, addressing, ready, programming, withCommand, withHeld, withEnables, withRequests, withModes, withBitFraming, withRegisters, withRxLastBits}
 use Rattle.machine.specs.Fifo.{registerAt, offered, offeredAll, flushed, restOf, alerted}
 use Rattle.machine.specs.Timer.{timerStarted, timerStopped, timerClock}
 use Rattle.machine.specs.Commands.{programs, withKeyErr, clearedErrors, checksumStarted, commandStarted, commandWritten, ended, settled, raisedTx, raisedRx}
+use Rattle.machine.specs.Power.{modesWritten, modesClocked, standsStill}
 use Rattle.machine.specs.Registers.{pageWritten, controlWritten, interruptsWritten, registerWritten}
-use Rattle.machine.specs.Events.{batchStored, programmed, commandClocked, clock, clocks, started}
+use Rattle.machine.specs.Events.{batchStored, programmed, commandClocked, reached, endsProgramming, clock, clocks, started}
 use Rattle.machine.proofs.Cases.{either, while-programming}
 use Rattle.journal.specs.Entries as e
 use Rattle.journal.specs.Entries.{Entry, Byte, latestFrom, noChecksum, Memory, memoryFrom}
-use Rattle.journal.specs.Journal.{Journal, entered, offer, offerAll, leave, leaveAll, begun, enterCommand, enterRegister, enterSettled, enterWritten, enterEnd, enterClockOf, enterClocks}
+use Rattle.journal.specs.Journal.{Journal, entered, offer, offerAll, leave, leaveAll, begun, enterCommand, enterRegister, enterSettled, enterWritten, enterEnd, enterClockOf, enterClock, enterClocks}
 use Rattle.journal.specs.Demand.{batch, waiting, checksumOf, storedBytes}
 use Rattle.journal.proofs.Folds.{latest-append, memory-append}
 use Rattle.journal.proofs.Moves.{Moves, moves-both, moves-mark, grows-all, quietly-all, quietly-leave}
@@ -59,6 +60,18 @@ tx-either P x p q r = begins (TStartTxBegin x)
     begins : (t : Bool) → P (txEnded (cond t (timerStarted x) x))
     begins true = ends (timerStarted x) q r
     begins false = ends x p q
+
+-- A clock: where a power mode has hold only the modes change, and nothing is entered.
+pub clock-either : (P : Machine → Journal → Type 0) (m : Machine) (j : Journal) → P (withModes (modesClocked false (m .status .modes)) m) j →
+    P (withModes (modesClocked (endsProgramming (m .command)) (m .status .modes)) (reached m)) (enterClockOf (m .command) (timerClock m) j) → P (clock m) (enterClock m j)
+unfolding clock
+clock-either P m j stands reaches = go (standsStill m)
+  where
+    go : (t : Bool) →
+        P (cond t (withModes (modesClocked false (m .status .modes)) m) (withModes (modesClocked (endsProgramming (m .command)) (m .status .modes)) (reached m)))
+        (cond t j (enterClockOf (m .command) (timerClock m) j))
+    go true = stands
+    go false = reaches
 
 rest-drop : (h : List ℕ) → drop 1 h ≡ restOf h
 rest-drop [] = refl
@@ -140,7 +153,7 @@ module _ (image : List ℕ) where
           let flushes = cond f (flushed m) m in
           let stops = cond s (timerStopped flushes) flushes in
           let starts = cond t (timerStarted stops) stops in
-          AgreesWith image (withControl (32 * bit v 5 + 16 * bit v 4) starts) (cond f (leaveAll (e.left e.flush) e.flushed j) j)
+          AgreesWith image (withModes (modesWritten (programs (m .command)) v (m .status .modes)) starts) (cond f (leaveAll (e.left e.flush) e.flushed j) j)
       go true true true = flush-agrees m j a
       go true true false = flush-agrees m j a
       go true false true = flush-agrees m j a
@@ -231,11 +244,15 @@ module _ (image : List ℕ) where
   command-clocked TransceiveSending m j is a = a
   command-clocked TransceiveReceiving m j is a = a
 
+  -- A clock, and any number of them.
+  pub clock-agrees : (m : Machine) (j : Journal) → AgreesWith image m j → AgreesWith image (clock m) (enterClock m j)
+  unfolding reached
+  clock-agrees m j a = clock-either (AgreesWith image) m j a (command-clocked (m .command) (timerClock m) j (timer-command m) (timer-agrees m j a))
+
   pub clocks-agree : (n : ℕ) (m : Machine) (j : Journal) → AgreesWith image m j → AgreesWith image (clocks n m) (enterClocks n m j)
-  unfolding clocks enterClocks clock
+  unfolding clocks enterClocks
   clocks-agree zero m j a = a
-  clocks-agree (suc n) m j a =
-      clocks-agree n (clock m) (enterClockOf (m .command) (timerClock m) j) (command-clocked (m .command) (timerClock m) j (timer-command m) (timer-agrees m j a))
+  clocks-agree (suc n) m j a = clocks-agree n (clock m) (enterClock m j) (clock-agrees m j a)
 
   -- A host read.
   pub read-agrees : (t : Bool) (m : Machine) (j : Journal) → AgreesWith image m j → AgreesWith image (cond t (alerted m (withHeld (restOf (m .held)) m)) m) (cond t (leave (e.left e.host) j) j)

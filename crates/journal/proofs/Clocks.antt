@@ -1,26 +1,27 @@
 -- What an advance enters: at the end of each programming those of the waiting bytes that are latched then, in turn; and the bytes of every programming
--- that ended are at their addresses when the advance is over.
+-- that ended are at their addresses when the advance is over. While a power mode has hold, nothing is entered.
 -- Assumes nothing.
 use mathlib.Core.Path.{_≡_, refl, sym, ap, _∙_, subst}
 use mathlib.Core.Bool.{Bool, true, false, cond}
 use mathlib.Core.List.{List, [], _∷_, _++_, append-assoc, append-nil}
-use Prim.Native.Nat.{ℕ, zero, suc, _+_, _-_, _<_, _≤_}
+use Prim.Native.Nat.{ℕ, zero, suc, _+_, _<_, _≤_}
 use native.Mathlib.Omega.{arith}
 use lib.Dec.{leb}
 use lib.ListN.{length, getD}
 use borrow.Author.Tests.{leb-true, leb-false}
 use Rattle.machine.specs.State.{Machine, Command, WriteE2, programming}
 use Rattle.machine.specs.Timer.{timerClock}
+use Rattle.machine.specs.Power.{standsStill}
 use Rattle.machine.specs.Events.{clock, clocks}
 use Rattle.machine.proofs.Cases.{Kind, still, under, kind, not-programming}
-use Rattle.machine.proofs.Clock.{timer-command, plain-clocked, goes-on, ends}
+use Rattle.machine.proofs.Clock.{timer-command, clock-stands, clock-plain, goes-on, ends}
 use Rattle.journal.specs.Entries.{Entry, Byte, collect}
-use Rattle.journal.specs.Journal.{Journal, enterEnd, enterClockOf, enterClocks}
+use Rattle.journal.specs.Journal.{Journal, enterEnd, enterClockOf, enterClock, enterClocks}
 use Rattle.journal.specs.Demand.{batch, waiting}
 use Rattle.journal.specs.Account.{memoryBytes, AtAddresses}
 use Rattle.journal.proofs.Folds.{collect-append}
 use Rattle.journal.proofs.Agreement.{AgreesWith, PlaceIs}
-use Rattle.journal.proofs.Calls.{timer-agrees, clocks-agree}
+use Rattle.journal.proofs.Calls.{timer-agrees, clock-agrees, clocks-agree}
 use Rattle.journal.proofs.Programming.{finishes}
 use Rattle.journal.proofs.Entered.{Inside, inside-none, inside-both, end-enters}
 
@@ -68,7 +69,7 @@ module _ (image : List ℕ) (n : ℕ) (m : Machine) (j : Journal) (agrees : Agre
   x = timerClock m
 
   abbrev k : Journal
-  k = enterClockOf (m .command) x j
+  k = enterClock m j
 
   abbrev end : Machine
   end = clocks n (clock m)
@@ -77,9 +78,12 @@ module _ (image : List ℕ) (n : ℕ) (m : Machine) (j : Journal) (agrees : Agre
   passes : Clocked (clock m) k end (enterClocks n (clock m) k) → k ≡ j → waiting (clock m .command) ≡ waiting (m .command) → Clocked m j end (enterClocks n (clock m) k)
   passes rest none same = quietly (clock m) same (subst (λ (z : Journal). Clocked (clock m) z end (enterClocks n (clock m) k)) none rest)
 
-  module _ (a left : ℕ) (bs : List ℕ) (is : m .command ≡ WriteE2 (programming a bs left)) where
+  by-hold : (t : Bool) → standsStill m ≡ t → k ≡ cond t j (enterClockOf (m .command) x j)
+  by-hold t h = ap (λ (u : Bool). cond u j (enterClockOf (m .command) x j)) h
+
+  module _ (a left : ℕ) (bs : List ℕ) (runs : standsStill m ≡ false) (is : m .command ≡ WriteE2 (programming a bs left)) where
     enters : (t : Bool) → leb left 1 ≡ t → k ≡ cond t (enterEnd a bs x j) j
-    enters t e = ap (λ (c : Command). enterClockOf c x j) is ∙ ap (λ (u : Bool). cond u (enterEnd a bs x j) j) e
+    enters t e = by-hold false runs ∙ ap (λ (c : Command). enterClockOf c x j) is ∙ ap (λ (u : Bool). cond u (enterEnd a bs x j) j) e
 
     -- a programming ends by it
     finishing : Clocked (clock m) k end (enterClocks n (clock m) k) → leb left 1 ≡ true → Clocked m j end (enterClocks n (clock m) k)
@@ -88,7 +92,7 @@ module _ (image : List ℕ) (n : ℕ) (m : Machine) (j : Journal) (agrees : Agre
         let last = leb-true left 1 e in
         let l = end-enters image a left bs x j (timer-command m ∙ is) (timer-agrees image m j agrees) in
         let place = subst (λ (c : Command). PlaceIs c (j .base) (j .count)) is (agrees .same-place) in
-        let next : collect memoryBytes (l .entries) ≡ waiting (clock m .command) = l .waits ∙ ap (λ (y : Machine). waiting (y .command)) (sym (ends m a left bs is last)) in
+        let next : collect memoryBytes (l .entries) ≡ waiting (clock m .command) = l .waits ∙ ap (λ (y : Machine). waiting (y .command)) (sym (ends m a left bs runs is last)) in
         let size : length (end .eeprom) ≡ 512 = clocks-agree image (suc n) m j agrees .whole in
         record {
           entries = l .entries ++ rest .entries;
@@ -104,28 +108,31 @@ module _ (image : List ℕ) (n : ℕ) (m : Machine) (j : Journal) (agrees : Agre
               ∙ sym (append-assoc (batch a bs) (rest .ended) (waiting (end .command)));
           at-addresses =
               at-both (end .eeprom) (batch a bs) (rest .ended)
-              (stand-at bs (end .eeprom) a (omega (arith, place .0, place .1, size)) (finishes n m a left bs is (omega arith) (omega (arith, place .0, place .1)) (agrees .whole)))
+              (stand-at bs (end .eeprom) a (omega (arith, place .0, place .1, size)) (finishes n m a left bs runs is (omega arith) (omega (arith, place .0, place .1)) (agrees .whole)))
               (rest .at-addresses);
         }
 
   one-clock : Clocked (clock m) k end (enterClocks n (clock m) k) → Clocked m j end (enterClocks n (clock m) k)
-  unfolding clock
-  one-clock rest = go (kind (m .command))
+  one-clock rest = held (standsStill m) refl
     where
-      go : Kind (m .command) → Clocked m j end (enterClocks n (clock m) k)
-      go (still idle) =
-          passes rest (not-programming _ j (m .command) idle)
-          (ap (λ (y : Machine). waiting (y .command)) (plain-clocked (m .command) x idle) ∙ ap waiting (timer-command m))
-      go (under a bs left is) = by (leb left 1) refl
+      go : standsStill m ≡ false → Kind (m .command) → Clocked m j end (enterClocks n (clock m) k)
+      go runs (still idle) =
+          passes rest (by-hold false runs ∙ not-programming _ j (m .command) idle)
+          (ap (λ (y : Machine). waiting (y .command)) (clock-plain m runs idle) ∙ ap waiting (timer-command m))
+      go runs (under a bs left is) = by (leb left 1) refl
         where
           by : (t : Bool) → leb left 1 ≡ t → Clocked m j end (enterClocks n (clock m) k)
-          by true e = finishing a left bs is rest e
+          by true e = finishing a left bs runs is rest e
           by false e =
-              passes rest (enters a left bs is false e) (ap (λ (y : Machine). waiting (y .command)) (goes-on m a left bs is (leb-false left 1 e)) ∙ ap waiting (sym is))
+              passes rest (enters a left bs runs is false e) (ap (λ (y : Machine). waiting (y .command)) (goes-on m a left bs runs is (leb-false left 1 e)) ∙ ap waiting (sym is))
+
+      held : (t : Bool) → standsStill m ≡ t → Clocked m j end (enterClocks n (clock m) k)
+      held true holds = passes rest (by-hold true holds) (ap (λ (y : Machine). waiting (y .command)) (clock-stands m holds))
+      held false runs = go runs (kind (m .command))
 
 -- Any number of clocks.
 pub clocks-enter : (image : List ℕ) (n : ℕ) (m : Machine) (j : Journal) → AgreesWith image m j → Clocked m j (clocks n m) (enterClocks n m j)
 unfolding clocks enterClocks AtAddresses collect
 clocks-enter image zero m j agrees =
     record { entries = []; appended = sym (append-nil (j .entries)); inside = inside-none; ended = []; in-order = append-nil (waiting (m .command)); at-addresses = tt }
-clocks-enter image (suc n) m j agrees = one-clock image n m j agrees (clocks-enter image n (clock m) _ (clocks-agree image 1 m j agrees))
+clocks-enter image (suc n) m j agrees = one-clock image n m j agrees (clocks-enter image n (clock m) (enterClock m j) (clock-agrees image m j agrees))

@@ -1,23 +1,28 @@
 -- Demand 3, whole, over the machine's definition.
 -- Assumes nothing.
 use mathlib.Core.Path.{_≡_, refl, sym, ap, _∙_, subst}
-use mathlib.Core.Bool.{Bool, true, false, cond, not}
+use mathlib.Core.Bool.{Bool, true, false, cond, not, _||_}
 use mathlib.Core.List.{List, [], _∷_, _++_, append-assoc, append-cancel-left}
 use Prim.Native.Nat.{ℕ, suc, _+_, _-_, _/_, _%_, _<_, _≤_}
 use native.Mathlib.Omega.{arith}
-use lib.Dec.{eqb, eqb·suc-zero}
+use lib.Dec.{leb, eqb, eqb·suc-zero}
 use lib.ListN.{length, getD, take, drop}
 use lib.Seq.{take-append-seam}
+use borrow.Author.Tests.{leb-true, leb-false}
 use Rattle.crc.specs.Checksum.{resultOf}
 use Rattle.key.specs.Key.{formatHolds, judgedKey}
-use Rattle.machine.specs.State.{Machine, Checksum, Key, Command, WriteE2, programming}
+use Rattle.machine.specs.State.{Machine, Checksum, Key, Command, WriteE2, programming, withModes}
 use Rattle.machine.specs.Fifo.{firstOf, alerted}
 use Rattle.machine.specs.Frames.{frameSent}
+use Rattle.machine.specs.Power.{standsStill}
 use Rattle.machine.specs.Registers.{mapped, registerRead, crcResult}
+use Rattle.machine.specs.PowerModes.{modesAfter, standsFor, leftAfter}
 use Rattle.machine.specs.WellFormed.{wellFormed}
 use Rattle.machine.specs.Refusals.{Call, start, hostRead, hostWrite, advance, takeFrame, deliver, refusal}
 use Rattle.machine.specs.Events.{Outcome, accepted, perform, refused, bufferOf, written, readByte, afterRead, advanced, bufferTaken, byte, clocks}
 use Rattle.machine.proofs.Performing.{as-accepted, passed-test, not-false}
+use Rattle.machine.proofs.ManyClocks.Pieces.{in-parts}
+use Rattle.machine.proofs.PowerModes.{stands-fewer, stands}
 use Rattle.machine.proofs.WellFormed.Parts.{some-left}
 use Rattle.journal.specs.Entries as e
 use Rattle.journal.specs.Entries.{collect, keyBytes}
@@ -109,25 +114,59 @@ module _ (image : List ℕ) where
     unfolding enter
     refused-adds-nothing c n is = ap (λ (t : Bool). cond t (enterAccepted c m j) j) (ap (λ (k : ℕ). eqb k 0) is ∙ eqb·suc-zero n)
 
-    programmed-bytes-stand : (n s left : ℕ) (bs : List ℕ) → m .command ≡ WriteE2 (programming s bs left) → refusal m (advance n) ≡ 0 → left ≤ n →
-        (i : ℕ) → i < length bs → getD (perform m (advance n) .next .eeprom) (s + i) 0 ≡ getD bs i 0
-    unfolding refusal advanced alerted
-    programmed-bytes-stand n s left bs is ok within i h =
-        let well = not-false (wellFormed m) (passed-test (not (wellFormed m)) 6 _ ok .0) in
-        let some = some-left m well s left bs is in
-        let place = subst (λ (c : Command). PlaceIs c (j .base) (j .count)) is (a .same-place) in
-        let one-more : n ≡ suc (n - 1) = omega arith in
-        ap (λ (o : Outcome). getD (o .next .eeprom) (s + i) 0) (as-accepted m (advance n) ok)
-        ∙ ap (λ (k : ℕ). getD (clocks k m .eeprom) (s + i) 0) one-more
-        ∙ finishes (n - 1) m s left bs is (omega arith) (omega (arith, place .0, place .1)) (a .whole) i h
+    -- An advance that is not refused: the machine is well formed.
+    module _ (n : ℕ) (ok : refusal m (advance n) ≡ 0) where
+      well : wellFormed m ≡ true
+      unfolding refusal
+      well = not-false (wellFormed m) (passed-test (not (wellFormed m)) 6 _ ok .0)
 
-    programming-lasts : (n s left : ℕ) (bs : List ℕ) → m .command ≡ WriteE2 (programming s bs left) → refusal m (advance n) ≡ 0 → n < left →
-        (perform m (advance n) .next .command ≡ WriteE2 (programming s bs (left - n))) × (perform m (advance n) .next .eeprom ≡ m .eeprom)
-    unfolding advanced alerted
-    programming-lasts n s left bs is ok before =
-        let same = as-accepted m (advance n) ok in
-        let (waits, stands) = pending n m s left bs is before in
-        (ap (λ (o : Outcome). o .next .command) same ∙ waits, ap (λ (o : Outcome). o .next .eeprom) same ∙ stands)
+      command-after : perform m (advance n) .next .command ≡ clocks n m .command
+      unfolding advanced alerted
+      command-after = ap (λ (o : Outcome). o .next .command) (as-accepted m (advance n) ok)
+
+      eeprom-after : perform m (advance n) .next .eeprom ≡ clocks n m .eeprom
+      unfolding advanced alerted
+      eeprom-after = ap (λ (o : Outcome). o .next .eeprom) (as-accepted m (advance n) ok)
+
+      programming-stands : standsFor n (m .status .modes) ≡ true → (perform m (advance n) .next .command ≡ m .command) × (perform m (advance n) .next .eeprom ≡ m .eeprom)
+      programming-stands holds =
+          let same = stands m well n holds in (command-after ∙ ap (λ (x : Machine). x .command) same, eeprom-after ∙ ap (λ (x : Machine). x .eeprom) same)
+
+      module _ (stand s left : ℕ) (bs : List ℕ) (is : m .command ≡ WriteE2 (programming s bs left)) (holds : standsFor stand (m .status .modes) ≡ true) (leaves : leftAfter stand (m .status .modes)) where
+        -- Behind the clocks in which a mode has hold the machine is as it was, and no mode has hold.
+        abbrev y : Machine
+        y = withModes (modesAfter stand (m .status .modes)) m
+
+        behind : (k : ℕ) → n ≡ stand + k → clocks n m ≡ clocks k y
+        behind k all = ap (λ (z : ℕ). clocks z m) all ∙ in-parts stand k m ∙ ap (clocks k) (stands m well stand holds)
+
+        runs : standsStill y ≡ false
+        runs = λ i. leaves .0 i || leaves .1 i
+
+        programmed-bytes-stand : stand + left ≤ n → (i : ℕ) → i < length bs → getD (perform m (advance n) .next .eeprom) (s + i) 0 ≡ getD bs i 0
+        programmed-bytes-stand within i h =
+            let some = some-left m well s left bs is in
+            let place = subst (λ (c : Command). PlaceIs c (j .base) (j .count)) is (a .same-place) in
+            let k = n - stand - 1 in
+            ap (λ (z : List ℕ). getD z (s + i) 0) eeprom-after
+            ∙ ap (λ (x : Machine). getD (x .eeprom) (s + i) 0) (behind (suc k) (omega arith))
+            ∙ finishes k y s left bs runs is (omega arith) (omega (arith, place .0, place .1)) (a .whole) i h
+
+        programming-lasts : n < stand + left → (perform m (advance n) .next .command ≡ WriteE2 (programming s bs (left - (n - stand)))) × (perform m (advance n) .next .eeprom ≡ m .eeprom)
+        programming-lasts before = go (leb n stand) refl
+          where
+            go : (t : Bool) → leb n stand ≡ t → (perform m (advance n) .next .command ≡ WriteE2 (programming s bs (left - (n - stand)))) × (perform m (advance n) .next .eeprom ≡ m .eeprom)
+            go true e =
+                let few : n ≤ stand = leb-true n stand e in
+                let none : left ≡ left - (n - stand) = omega arith in
+                let (waits, stores) = programming-stands (stands-fewer n stand (m .status .modes) few holds) in
+                (waits ∙ is ∙ ap (λ (z : ℕ). WriteE2 (programming s bs z)) none, stores)
+            go false e =
+                let k = n - stand in
+                let more : stand < n = leb-false n stand e in
+                let same = behind k (omega arith) in
+                let (waits, stores) = pending k y s left bs runs is (omega arith) in
+                (command-after ∙ ap (λ (x : Machine). x .command) same ∙ waits, eeprom-after ∙ ap (λ (x : Machine). x .eeprom) same ∙ stores)
 
     key-judged : (c : Call) (keys : List ℕ) (k : ℕ) (ks : List ℕ) → keys ≡ k ∷ ks → collect keyBytes (enter c m j .entries) ≡ collect keyBytes (j .entries) ++ keys →
         (length keys ≡ 12) × (perform m c .next .key ≡ record { loaded = formatHolds keys; bytes = judgedKey keys }) × (perform m c .next .status .errors .keyErr ≡ not (formatHolds keys))
@@ -146,8 +185,9 @@ module _ (image : List ℕ) where
         empty-read = empty-read (s .machine) (s .journal) a;
         frame-begins = frame-begins (s .machine) (s .journal) a;
         refused-adds-nothing = refused-adds-nothing (s .machine) (s .journal) a;
-        programmed-bytes-stand = programmed-bytes-stand (s .machine) (s .journal) a;
-        programming-lasts = programming-lasts (s .machine) (s .journal) a;
+        programmed-bytes-stand = λ n stand at left bs is ok holds leaves. programmed-bytes-stand (s .machine) (s .journal) a n ok stand at left bs is holds leaves;
+        programming-lasts = λ n stand at left bs is ok holds leaves. programming-lasts (s .machine) (s .journal) a n ok stand at left bs is holds leaves;
+        programming-stands = programming-stands (s .machine) (s .journal) a;
         key-judged = key-judged (s .machine) (s .journal) a;
       }
 

@@ -4,17 +4,18 @@
 use mathlib.Core.Path.{_≡_, refl, sym, ap, _∙_, subst}
 use mathlib.Core.Bool.{Bool, true, false, cond, _&&_, true≢false}
 use mathlib.Core.List.{List, [], _∷_, _++_, append-assoc, append-nil}
-use Prim.Native.Nat.{ℕ, _+_, _-_, _*_, _%_, _≤_, min}
+use Prim.Native.Nat.{ℕ, _+_, _%_, _≤_, min}
 use native.Mathlib.Omega.{arith}
 use lib.Dec.{ltb, leb, eqb}
 use lib.ListN.{length, take, replicate}
 use borrow.Author.Tests.{ltb-true, ltb-false, leb-false, le-leb, lt-leb}
-use Rattle.bits.specs.Bits.{bit, bitSet}
-use Rattle.machine.specs.State.{Machine, Command, Writing, Idle, WriteE2, ReadE2, LoadConfig, LoadKeyE2, LoadKey, CalcCRC, Transmit, Receive, TransceiveSending, TransceiveReceiving, addressing, ready, programming, withinWriteE2, withCommand, withControl}
+use Rattle.bits.specs.Bits.{bitSet}
+use Rattle.machine.specs.State.{Machine, Command, Writing, Idle, WriteE2, ReadE2, LoadConfig, LoadKeyE2, LoadKey, CalcCRC, Transmit, Receive, TransceiveSending, TransceiveReceiving, addressing, ready, programming, withinWriteE2, withCommand, withModes}
 use Rattle.machine.specs.Fifo.{offered, flushed}
 use Rattle.machine.specs.Memory.{roomInBlock, programmingClocks}
 use Rattle.machine.specs.Timer.{timerStarted, timerStopped}
 use Rattle.machine.specs.Commands.{programs, commandStarted, commandWritten, clearedErrors, enough, taken, ended, raisedTx, withAccessErr, latched, steppedAs, stepped, settled}
+use Rattle.machine.specs.Power.{modesWritten}
 use Rattle.machine.specs.Registers.{controlWritten, registerWritten}
 use Rattle.machine.specs.Events.{batchStored, programmed}
 use Rattle.machine.proofs.Cases.{either}
@@ -229,7 +230,7 @@ module _ (image : List ℕ) where
             let flushes = cond f (flushed m) m in
             let stops = cond s (timerStopped flushes) flushes in
             let starts = cond t (timerStarted stops) stops in
-            Waits (withControl (32 * bit v 5 + 16 * bit v 4) starts)
+            Waits (withModes (modesWritten (programs (m .command)) v (m .status .modes)) starts)
         go true true true = refl
         go true true false = refl
         go true false true = refl

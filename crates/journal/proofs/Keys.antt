@@ -4,7 +4,6 @@ use mathlib.Core.Path.{_≡_, refl, sym, ap, _∙_, subst}
 use mathlib.Core.Bool.{Bool, true, false, cond, not, _||_, true≢false}
 use mathlib.Core.List.{List, [], _∷_, _++_, append-assoc, append-nil}
 use Prim.Native.Nat.{ℕ, zero, suc}
-use native.Mathlib.Omega.{arith}
 use lib.Dec.{ltb, leb, eqb}
 use lib.ListN.{length, take, replicate}
 use lib.Seq.{length-take-le, take-nil}
@@ -14,12 +13,13 @@ use Rattle.machine.specs.State.{Machine, Key, Command, Idle, WriteE2, ReadE2, L
 use Rattle.machine.specs.Memory.{roomInBlock, programmingClocks}
 use Rattle.machine.specs.Timer.{timerClock}
 use Rattle.machine.specs.Commands.{codeOf, enough, taken, ended, withAccessErr, raisedTx, checksumTaken, keyJudged, steppedAs, stepped, settled}
+use Rattle.machine.specs.Power.{standsStill}
 use Rattle.machine.specs.Registers.{registerWritten}
 use Rattle.machine.specs.Events.{batchStored, clock}
 use Rattle.machine.proofs.Cases.{either, while-programming}
 use Rattle.journal.specs.Entries as e
 use Rattle.journal.specs.Entries.{Entry, collect, keyBytes}
-use Rattle.journal.specs.Journal.{Journal, offerAll, leave, key, leaveAs, leaveAllAs, usesOf, basedBy, offersOf, enterStep, enterSettled, enterRegister, enterWritten, enterEnd, enterClockOf, enterClocks}
+use Rattle.journal.specs.Journal.{Journal, offerAll, leave, key, leaveAs, leaveAllAs, usesOf, basedBy, offersOf, enterStep, enterSettled, enterRegister, enterWritten, enterEnd, enterClockOf, enterClock, enterClocks}
 use Rattle.journal.proofs.Folds.{collect-append}
 use Rattle.journal.proofs.Adding.{Adds, none-of, adds-none, adds-both, Moved, step-adds, register-adds}
 use Rattle.journal.proofs.Agreement.{AgreesWith, KeyClear}
@@ -179,15 +179,18 @@ module _ (image : List ℕ) where
       }
 
   -- Clocks enter no key byte.
-  clock-keyless : (c : Command) (m : Machine) (j : Journal) → Keyless j (enterClockOf c m j)
-  clock-keyless c m j =
+  clocked-keyless : (c : Command) (m : Machine) (j : Journal) → Keyless j (enterClockOf c m j)
+  clocked-keyless c m j =
       while-programming (Keyless j) (λ s bs left. cond (leb left 1) (enterEnd s bs m j) j) j c
       (λ s bs left is.
       let none = adds-none NoKey j j refl in
       either (Adds NoKey j) (leb left 1) (enterEnd s bs m j) j (either (Adds NoKey j) (eqb (length (j .held)) 0) j _ none (settle-keyless (batchStored s bs m) j refl)) none)
       (adds-none NoKey j j refl)
 
+  clock-keyless : (m : Machine) (j : Journal) → Keyless j (enterClock m j)
+  clock-keyless m j = either (Adds NoKey j) (standsStill m) j _ (adds-none NoKey j j refl) (clocked-keyless (m .command) (timerClock m) j)
+
   pub clocks-keyless : (n : ℕ) (m : Machine) (j : Journal) → Keyless j (enterClocks n m j)
   unfolding enterClocks
   clocks-keyless zero m j = adds-none NoKey j j refl
-  clocks-keyless (suc n) m j = adds-both NoKey (clock-keyless (m .command) (timerClock m) j) (clocks-keyless n (clock m) _)
+  clocks-keyless (suc n) m j = adds-both NoKey (clock-keyless m j) (clocks-keyless n (clock m) (enterClock m j))

@@ -4,35 +4,36 @@
 use mathlib.Core.Path.{_≡_, refl, sym, ap, _∙_, subst}
 use mathlib.Core.Bool.{Bool, true, false, cond, _&&_}
 use mathlib.Core.List.{List, [], _∷_, _++_, append-assoc, append-nil, map}
-use Prim.Native.Nat.{ℕ, zero, suc, _+_, _-_, _*_, _%_, min}
+use Prim.Native.Nat.{ℕ, zero, suc, _+_, _-_, _%_, min}
 use native.Mathlib.Omega.{arith}
 use lib.Dec.{ltb, leb, eqb}
 use lib.ListN.{length, length-append}
 use borrow.Author.Tests.{eqb-true, lt-ltb}
-use Rattle.bits.specs.Bits.{bit, bitSet}
-use Rattle.machine.specs.State.{Machine, Command, Idle, WriteE2, ReadE2, LoadConfig, LoadKeyE2, LoadKey, CalcCRC, Transmit, Receive, TransceiveSending, TransceiveReceiving, addressing, ready, programming, withCommand, withHeld, withControl, withRxLastBits}
+use Rattle.bits.specs.Bits.{bitSet}
+use Rattle.machine.specs.State.{Machine, Command, Idle, WriteE2, ReadE2, LoadConfig, LoadKeyE2, LoadKey, CalcCRC, Transmit, Receive, TransceiveSending, TransceiveReceiving, addressing, ready, programming, withCommand, withHeld, withModes, withRxLastBits}
 use Rattle.machine.specs.Fifo.{oneLost, offered, offeredAll, lostAt, lostOf, flushed, restOf, alerted}
 use Rattle.machine.specs.Memory.{addressOf, bytesFrom}
 use Rattle.machine.specs.Timer.{TStopRx, timerStarted, timerStopped, timerClock}
 use Rattle.machine.specs.Commands.{codeOf, programs, clearedErrors, commandWritten, enough, argument, taken, ended, raisedTx, raisedRx, withAccessErr, readable, readBytes, readFrom, configuredFrom, keyFrom, steppedAs, stepped, settled, lostAs, lostStepping, lostSettling}
 use Rattle.machine.specs.Frames.{sending, sent, txBegun, txEnded, passed, crcFails, parityFails, withFrameErrors, received, lostReceiving}
+use Rattle.machine.specs.Power.{modesWritten}
 use Rattle.machine.specs.Registers.{mapped, controlWritten, registerWritten, lostAtRegister}
 use Rattle.machine.specs.Refusals.{Call, start, hostRead, hostWrite, advance, takeFrame, deliver, refusal}
 use Rattle.machine.specs.Events as event
-use Rattle.machine.specs.Events.{Answer, Outcome, refused, done, lost, byte, frame, accepted, perform, bufferOf, started, written, lostWriting, afterRead, batchStored, programmed, commandClocked, clock, clocks, advanced, delivered}
+use Rattle.machine.specs.Events.{Answer, Outcome, refused, done, lost, byte, frame, accepted, perform, bufferOf, started, written, lostWriting, afterRead, batchStored, programmed, commandClocked, reached, clock, clocks, advanced, delivered}
 use Rattle.machine.proofs.Cases.{either, Kind, still, under, kind, not-programming}
 use Rattle.machine.proofs.Clock.{timer-any, timer-command, plain-clocked}
 use Rattle.machine.proofs.Lost.{lost-by-held, other-loses-none}
 use Rattle.machine.proofs.Performing.{as-accepted}
 use Rattle.journal.specs.Entries as e
 use Rattle.journal.specs.Entries.{Entry, Destination, bytesAway, awayAfter, awayFrom, collect}
-use Rattle.journal.specs.Journal.{Journal, entered, offer, offerAll, leaveAll, Use, address, number, leaveAllAs, usesOf, basedBy, offersOf, enterStep, enterSettled, enterCommand, enterRegister, enterWritten, enterEnd, enterClockOf, enterClocks, enterAccepted, enter}
+use Rattle.journal.specs.Journal.{Journal, entered, offer, offerAll, leaveAll, Use, address, number, leaveAllAs, usesOf, basedBy, offersOf, enterStep, enterSettled, enterCommand, enterRegister, enterWritten, enterEnd, enterClockOf, enterClock, enterClocks, enterAccepted, enter}
 use Rattle.journal.specs.Account.{offers}
 use Rattle.journal.proofs.Folds.{collect-append, away-append}
 use Rattle.journal.proofs.Adding.{Each, Adds, none-of, adds-none, adds-both, leave-adds, map-adds, leaving-adds, based-adds, command-adds}
 use Rattle.journal.proofs.Agreement.{AgreesWith, with-held, same-offered, uses-held}
 use Rattle.journal.proofs.Steps.{step-agrees}
-use Rattle.journal.proofs.Calls.{code-any, tx-either, register-agrees, stored-agrees, timer-agrees, clocks-agree}
+use Rattle.journal.proofs.Calls.{code-any, tx-either, clock-either, register-agrees, stored-agrees, timer-agrees, clock-agrees}
 
 -- What a machine shows of lost bytes.
 pub record Shown : Type 0 where
@@ -174,7 +175,7 @@ command-keeps v m = either (Keeps m) (programs (m .command)) m _ refl (code-any 
 control-loses : (v : ℕ) (m : Machine) (j : Journal) → Loses m j 0 (controlWritten v m) (cond (bitSet v 0) (leaveAll (e.left e.flush) e.flushed j) j)
 control-loses v m j =
     loses-as refl
-    (either (λ x. Keeps flushes (withControl (32 * bit v 5 + 16 * bit v 4) x)) (bitSet v 1) _ _
+    (either (λ x. Keeps flushes (withModes (modesWritten (programs (m .command)) v (m .status .modes)) x)) (bitSet v 1) _ _
     (either (λ x. Keeps flushes (timerStarted x)) (bitSet v 2) _ _ refl refl)
     (either (Keeps flushes) (bitSet v 2) _ _ refl refl))
     (go (bitSet v 0))
@@ -324,13 +325,17 @@ module _ (image : List ℕ) where
           by true = end-loses a left bs m j (now ∙ is) agrees
           by false = loses-none (nothing j) refl
 
-  -- Any number of clocks loses none: the timer keeps what is shown.
+  -- A clock loses none, and so any number of them: the timer and the power modes keep what is shown.
+  clock-loses : (m : Machine) (j : Journal) → AgreesWith image m j → Loses m j 0 (clock m) (enterClock m j)
+  unfolding reached
+  clock-loses m j a =
+      clock-either (Loses m j 0) m j (loses-none (nothing j) refl)
+      (loses-as (timer-any (Keeps m) m refl (λ t. refl) (λ t. refl)) refl (clocked-loses (m .command) (timerClock m) j (timer-command m) (timer-agrees image m j a)))
+
   clocks-lose : (n : ℕ) (m : Machine) (j : Journal) → AgreesWith image m j → Loses m j 0 (clocks n m) (enterClocks n m j)
-  unfolding clocks enterClocks clock
+  unfolding clocks enterClocks
   clocks-lose zero m j a = loses-none (nothing j) refl
-  clocks-lose (suc n) m j a =
-      let one = clocked-loses (m .command) (timerClock m) j (timer-command m) (timer-agrees image m j a) in
-      loses-both (loses-as (timer-any (Keeps m) m refl (λ t. refl) (λ t. refl)) refl one) (clocks-lose n (clock m) _ (clocks-agree image 1 m j a)) refl
+  clocks-lose (suc n) m j a = loses-both (clock-loses m j a) (clocks-lose n (clock m) (enterClock m j) (clock-agrees image m j a)) refl
 
   -- A delivery loses what its bytes do: what it changes before they are offered is neither what is held nor what is shown.
   received-loses : (bytes parities : List ℕ) (lastBits : ℕ) (m : Machine) (j : Journal) → j .held ≡ m .held →

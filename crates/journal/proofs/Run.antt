@@ -39,10 +39,10 @@ module _ (image : List ℕ) where
   accepted-agrees (advance n) m j ok a = clocks-agree image n m j a
   accepted-agrees (takeFrame buffer) m j ok a =
       let rest = passed-test (ltb (length buffer) 66) 5 _ (passed-test (not (wellFormed m)) 6 _ ok .1) .1 in
-      sent-agrees image m m j (not-false _ (or-first _ _ (passed-test (not (sending (m .command)) || eqb (length (m .held)) 0) 3 0 rest .0))) a
+      sent-agrees image m m j (not-false _ (or-first _ _ (passed-test (not (sending (m .command)) || eqb (length (m .held)) 0) 3 _ rest .0))) a
   accepted-agrees (deliver bytes parities lastBits) m j ok a =
       let rest = passed-test (not (frameFormed bytes parities lastBits)) 4 _ (passed-test (not (wellFormed m)) 6 _ ok .1) .1 in
-      received-agrees image bytes parities lastBits m m j (not-false _ (passed-test (not (receiving (m .command))) 3 0 rest .0)) a
+      received-agrees image bytes parities lastBits m m j (not-false _ (passed-test (not (receiving (m .command))) 3 _ rest .0)) a
 
   pub call-agrees : (c : Call) (m : Machine) (j : Journal) → AgreesWith image m j → AgreesWith image (perform m c .next) (enter c m j)
   unfolding perform enter

@@ -3,7 +3,7 @@
 -- Assumes nothing.
 use Prim.Native.Nat.{ℕ, suc, _+_, _-_, _/_, _%_, _<_, _≤_, min}
 use mathlib.Core.Path.{_≡_}
-use mathlib.Core.Bool.{not}
+use mathlib.Core.Bool.{true, not}
 use mathlib.Core.List.{List, [], _∷_, _++_}
 use lib.Dec.{ltb}
 use lib.ListN.{length, take, getD, set}
@@ -11,6 +11,7 @@ use Rattle.crc.specs.Checksum.{absorbedAll, resultOf}
 use Rattle.key.specs.Key.{formatHolds, judgedKey}
 use Rattle.machine.specs.State.{Machine, Checksum, Key, Command, WriteE2, programming, whileProgramming}
 use Rattle.machine.specs.Fifo.{firstOf}
+use Rattle.machine.specs.PowerModes.{standsFor, leftAfter}
 use Rattle.machine.specs.Registers.{mapped, crcResult}
 use Rattle.machine.specs.Refusals.{Call, hostRead, advance, takeFrame, refusal}
 use Rattle.machine.specs.Events.{started, perform, byte}
@@ -98,14 +99,20 @@ pub record NextCall (s : Both) : Type 0 where
       take (length (s .journal .held)) (perform (s .machine) (takeFrame buffer) .buffer) ≡ s .journal .held
   -- a refused call leaves the journal
   pub refused-adds-nothing : (c : Call) (n : ℕ) → refusal (s .machine) c ≡ suc n → enter c (s .machine) (s .journal) ≡ s .journal
-  -- latched bytes are at their addresses after an advance by as many clocks as were left, or more
+  -- latched bytes are at their addresses after an advance by as many clocks as were left, or more, behind those, if any, in which a power mode has hold
   pub programmed-bytes-stand :
-      (n a left : ℕ) (bs : List ℕ) → s .machine .command ≡ WriteE2 (programming a bs left) → refusal (s .machine) (advance n) ≡ 0 → left ≤ n →
+      (n stand a left : ℕ) (bs : List ℕ) → s .machine .command ≡ WriteE2 (programming a bs left) → refusal (s .machine) (advance n) ≡ 0 →
+      standsFor stand (s .machine .status .modes) ≡ true → leftAfter stand (s .machine .status .modes) → stand + left ≤ n →
       (i : ℕ) → i < length bs → getD (perform (s .machine) (advance n) .next .eeprom) (a + i) 0 ≡ getD bs i 0
   -- and not one clock earlier: with clocks left, the bytes wait on and memory is as it was
   pub programming-lasts :
-      (n a left : ℕ) (bs : List ℕ) → s .machine .command ≡ WriteE2 (programming a bs left) → refusal (s .machine) (advance n) ≡ 0 → n < left →
-      let m = perform (s .machine) (advance n) .next in (m .command ≡ WriteE2 (programming a bs (left - n))) × (m .eeprom ≡ s .machine .eeprom)
+      (n stand a left : ℕ) (bs : List ℕ) → s .machine .command ≡ WriteE2 (programming a bs left) → refusal (s .machine) (advance n) ≡ 0 →
+      standsFor stand (s .machine .status .modes) ≡ true → leftAfter stand (s .machine .status .modes) → n < stand + left →
+      let m = perform (s .machine) (advance n) .next in (m .command ≡ WriteE2 (programming a bs (left - (n - stand)))) × (m .eeprom ≡ s .machine .eeprom)
+  -- while a power mode has hold, the command and memory are as they were
+  pub programming-stands :
+      (n : ℕ) → refusal (s .machine) (advance n) ≡ 0 → standsFor n (s .machine .status .modes) ≡ true →
+      let m = perform (s .machine) (advance n) .next in (m .command ≡ s .machine .command) × (m .eeprom ≡ s .machine .eeprom)
   -- key bytes leave by twelve, which are judged
   pub key-judged :
       (c : Call) (twelve : List ℕ) (k : ℕ) (ks : List ℕ) → twelve ≡ k ∷ ks →

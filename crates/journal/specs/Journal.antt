@@ -16,6 +16,7 @@ use Rattle.machine.specs.Frames.{passed}
 use Rattle.machine.specs.Registers.{mapped, registerWritten}
 use Rattle.machine.specs.Refusals.{Call, start, hostRead, hostWrite, advance, takeFrame, deliver, refusal}
 use Rattle.machine.specs.Timer.{timerClock}
+use Rattle.machine.specs.Power.{standsStill}
 use Rattle.machine.specs.Events.{batchStored, clock, perform}
 use Rattle.journal.specs.Entries as e
 use Rattle.journal.specs.Entries.{Entry}
@@ -157,9 +158,13 @@ enterEnd a bs m j = cond (eqb (length (j .held)) 0) j (enterSettled (batchStored
 abbrev pub enterClockOf : Command → Machine → Journal → Journal
 enterClockOf c m j = whileProgramming (λ a bs left. cond (leb left 1) (enterEnd a bs m j) j) j c
 
+-- While a power mode has hold, no programming ends.
+abbrev pub enterClock : Machine → Journal → Journal
+enterClock m j = cond (standsStill m) j (enterClockOf (m .command) (timerClock m) j)
+
 unfoldable pub enterClocks : ℕ → Machine → Journal → Journal
 enterClocks zero m j = j
-enterClocks (suc n) m j = enterClocks n (clock m) (enterClockOf (m .command) (timerClock m) j)
+enterClocks (suc n) m j = enterClocks n (clock m) (enterClock m j)
 
 -- A call that is not refused.
 abbrev pub enterAccepted : Call → Machine → Journal → Journal

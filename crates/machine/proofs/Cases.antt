@@ -3,7 +3,7 @@
 -- Assumes nothing.
 use Prim.Native.Nat.{ℕ}
 use mathlib.Core.Path.{_≡_, refl, sym, ap, _∙_}
-use mathlib.Core.Bool.{Bool, true, false, cond, true≢false}
+use mathlib.Core.Bool.{Bool, true, false, cond, _||_, true≢false}
 use mathlib.Core.List.{List}
 use Rattle.machine.specs.State.{Command, Writing, Idle, WriteE2, ReadE2, LoadConfig, LoadKeyE2, LoadKey, CalcCRC, Transmit, Receive, TransceiveSending, TransceiveReceiving, addressing, ready, programming, withinWriteE2, ofProgramming, whileProgramming}
 use Rattle.machine.specs.Commands.{programs}
@@ -15,6 +15,11 @@ by-cond P false x y p q = q refl
 
 pub either : {A : Type 0} (P : A → Type 0) (t : Bool) (x y : A) → P x → P y → P (cond t x y)
 either P t x y p q = by-cond P t x y (λ e. p) (λ e. q)
+
+-- Neither of two tests holds.
+pub neither : (a b : Bool) → (a || b) ≡ false → (a ≡ false) × (b ≡ false)
+neither true b h = absurd (true≢false h)
+neither false b h = (refl, h)
 
 module _ {X : Type 0} (P : X → Type 0) where
   pub within-write-e2 : (there : Writing → X) (other : X) (c : Command) → ((w : Writing) → c ≡ WriteE2 w → P (there w)) → P other → P (withinWriteE2 there other c)

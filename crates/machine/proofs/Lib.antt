@@ -6,6 +6,8 @@ pub mod ManyClocks
 pub mod ModemStates
 pub mod Numbers
 pub mod Performing
+pub mod Power
+pub mod PowerModes
 pub mod ProgrammingTime
 pub mod Settling
 pub mod SingleClock

@@ -13,12 +13,12 @@ use Rattle.machine.specs.Frames.{sent, received, anyParityWrong, sameByt
 use Rattle.machine.specs.Registers.{registerRead, registerWritten}
 use Rattle.machine.specs.WellFormed.{wellFormed}
 use Rattle.machine.specs.Refusals.{allBits, refusal}
-use Rattle.machine.specs.Events.{started, written, readByte, afterRead, clock, clocks, advanced, taken, bufferTaken, delivered, perform, afterCalls}
+use Rattle.machine.specs.Events.{started, written, readByte, afterRead, reached, clock, clocks, advanced, taken, bufferTaken, delivered, perform, afterCalls}
 use Rattle.machine.specs.Numbers.{NumbersToMeet}
 use Rattle.machine.specs.Readings.{Readings}
 
 pub numbers-met : NumbersToMeet
-unfolding afterBit afterBits afterByte afterBytes stored formatHolds keyOf firstRefusal judged offered offeredAll loAlert hiAlert alerted timerClock storedFrom overRegisters commandWritten stepped settled sent received anyParityWrong sameBytes registerRead registerWritten wellFormed allBits refusal started written readByte afterRead clock clocks advanced taken bufferTaken delivered perform afterCalls
+unfolding afterBit afterBits afterByte afterBytes stored formatHolds keyOf firstRefusal judged offered offeredAll loAlert hiAlert alerted timerClock storedFrom overRegisters commandWritten stepped settled sent received anyParityWrong sameBytes registerRead registerWritten wellFormed allBits refusal started written readByte afterRead reached clock clocks advanced taken bufferTaken delivered perform afterCalls
 numbers-met =
     record {
       crc-6363-of-00-00 = refl;
@@ -54,7 +54,7 @@ numbers-met =
     }
 
 pub readings-met : Readings
-unfolding afterBit afterBits afterByte afterBytes stored formatHolds keyOf firstRefusal judged offered offeredAll loAlert hiAlert alerted timerClock storedFrom overRegisters commandWritten stepped settled sent received anyParityWrong sameBytes registerRead registerWritten wellFormed allBits refusal started written readByte afterRead clock clocks advanced taken bufferTaken delivered perform afterCalls ones
+unfolding afterBit afterBits afterByte afterBytes stored formatHolds keyOf firstRefusal judged offered offeredAll loAlert hiAlert alerted timerClock storedFrom overRegisters commandWritten stepped settled sent received anyParityWrong sameBytes registerRead registerWritten wellFormed allBits refusal started written readByte afterRead reached clock clocks advanced taken bufferTaken delivered perform afterCalls ones
 readings-met =
     record {
       load-config-loads-anything = refl;

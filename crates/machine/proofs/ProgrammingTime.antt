@@ -12,12 +12,14 @@ use Rattle.machine.specs.Memory.{roomInBlock, programmingClocks}
 use Rattle.machine.specs.Fifo.{offered, flushed, alerted}
 use Rattle.machine.specs.Timer.{timerStarted, timerStopped, timerClock}
 use Rattle.machine.specs.Commands.{programs, withAccessErr, ended, enough, taken, latched, writeStepped, steppedAs, stepped, settled, commandStarted, commandWritten, clearedErrors}
+use Rattle.machine.specs.Power.{standsStill}
 use Rattle.machine.specs.Registers.{mapped, controlWritten, registerWritten}
 use Rattle.machine.specs.Refusals.{hostWrite, refusal}
 use Rattle.machine.specs.Events.{Outcome, written, perform, programmed, clock}
 use Rattle.machine.specs.ProgrammingTime.{ProgrammingTime}
 use Rattle.machine.proofs.Cases.{either}
-use Rattle.machine.proofs.Clock.{goes-on, ends, end-any}
+use Rattle.machine.proofs.Clock.{clock-stands, goes-on, ends, end-any}
+use Rattle.machine.proofs.Settling.{settled-stands}
 
 -- No programming runs, or one that has all its clocks left.
 data Whole : Command → Type 0 where
@@ -114,19 +116,17 @@ write-begins m address v a left bs idle is =
     let after = settled-whole _ (register-keeps Whole (mapped (m .page) address) v m before by-command) in
     whole-clocks a left bs (subst Whole is (write-keeps Whole address v m before after))
 
-one-fewer : (m : Machine) (a left : ℕ) (bs : List ℕ) → m .command ≡ WriteE2 (programming a bs left) → 1 < left → clock m .command ≡ WriteE2 (programming a bs (left - 1))
-one-fewer m a left bs runs more = ap (λ (y : Machine). y .command) (goes-on m a left bs runs more)
+one-fewer : (m : Machine) (a left : ℕ) (bs : List ℕ) → standsStill m ≡ false → m .command ≡ WriteE2 (programming a bs left) → 1 < left → clock m .command ≡ WriteE2 (programming a bs (left - 1))
+one-fewer m a left bs reaches runs more = ap (λ (y : Machine). y .command) (goes-on m a left bs reaches runs more)
 
-clock-begins : (m : Machine) (a left b left′ : ℕ) (bs cs : List ℕ) → m .command ≡ WriteE2 (programming a bs left) → left ≤ 1 →
+none-fewer : (m : Machine) → standsStill m ≡ true → clock m .command ≡ m .command
+none-fewer m stands = ap (λ (y : Machine). y .command) (clock-stands m stands)
+
+clock-begins : (m : Machine) (a left b left′ : ℕ) (bs cs : List ℕ) → standsStill m ≡ false → m .command ≡ WriteE2 (programming a bs left) → left ≤ 1 →
     clock m .command ≡ WriteE2 (programming b cs left′) → left′ ≡ programmingClocks
-clock-begins m a left b left′ bs cs runs last is =
+clock-begins m a left b left′ bs cs reaches runs last is =
     let whole : WholeNow (programmed a bs (timerClock m)) = end-any a bs (timerClock m) WholeNow (none _ refl) (none Idle refl) (λ some high. all _ _ _ refl) in
-    whole-clocks b left′ cs (subst Whole (ap (λ (y : Machine). y .command) (sym (ends m a left bs runs last)) ∙ is) whole)
-
--- A programming takes no byte.
-settled-stands : (m : Machine) (a left : ℕ) (bs : List ℕ) → m .command ≡ WriteE2 (programming a bs left) → settled m ≡ m
-unfolding settled stepped
-settled-stands m a left bs runs = let once : stepped m ≡ m = ap (λ (c : Command). steppedAs c m) runs in ap stepped once ∙ once
+    whole-clocks b left′ cs (subst Whole (ap (λ (y : Machine). y .command) (sym (ends m a left bs reaches runs last)) ∙ is) whole)
 
 write-leaves : (m : Machine) (address v a left : ℕ) (bs : List ℕ) → m .command ≡ WriteE2 (programming a bs left) →
     perform m (hostWrite address v) .next .command ≡ WriteE2 (programming a bs left)
@@ -139,4 +139,4 @@ write-leaves m address v a left bs runs =
 
 -- The statement.
 pub programming-time : ProgrammingTime
-programming-time = record { write-begins = write-begins; clock-begins = clock-begins; one-fewer = one-fewer; write-leaves = write-leaves }
+programming-time = record { write-begins = write-begins; clock-begins = clock-begins; one-fewer = one-fewer; none-fewer = none-fewer; write-leaves = write-leaves }

@@ -7,5 +7,6 @@ pub mod Fifo
 pub mod Commands
 pub mod Registers
 pub mod Frames
+pub mod Modes
 pub mod Events
 pub mod Kept

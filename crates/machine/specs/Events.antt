@@ -1,13 +1,13 @@
 -- The six events (manual 9), each with its answer, the next machine and the buffer lent.
 -- Assumes nothing.
 use Prim.Native.Nat.{ℕ, zero, suc, _+_, _-_, _%_}
-use mathlib.Core.Bool.{true, false, cond}
+use mathlib.Core.Bool.{Bool, true, false, cond}
 use mathlib.Core.List.{List, [], _∷_, _++_}
 use lib.Dec.{eqb, leb}
 use lib.ListN.{length, drop, replicate}
 use Rattle.edition.specs.Edition.{editionOf}
 use Rattle.key.specs.Key.{emptyKey}
-use Rattle.machine.specs.State.{Machine, Command, Interrupts, Idle, WriteE2, ready, programming, whileProgramming, withCommand, withHeld, withEeprom}
+use Rattle.machine.specs.State.{Machine, Command, Interrupts, Idle, WriteE2, off, ready, programming, whileProgramming, withCommand, withHeld, withEeprom, withModes}
 use Rattle.machine.specs.Refusals.{Call, start, hostRead, hostWrite, advance, takeFrame, deliver, refusal}
 use Rattle.machine.specs.Registers.{mapped, registerRead, registerWritten, lostAtRegister}
 use Rattle.machine.specs.Fifo.{restOf, alerted}
@@ -15,6 +15,7 @@ use Rattle.machine.specs.Timer.{stoppedAt, timerClock}
 use Rattle.machine.specs.Memory.{storedFrom, overRegisters, bytesFrom}
 use Rattle.machine.specs.Commands.{raisedTx, settled, lostSettling}
 use Rattle.machine.specs.Frames.{frameSent, txLastBits, sent, received, lostReceiving}
+use Rattle.machine.specs.Power.{modesClocked, standsStill}
 
 abbrev pub noInterrupts : Interrupts
 noInterrupts = record { timer = false; tx = false; rx = false; idle = false; hiAlert = false; loAlert = false }
@@ -33,7 +34,7 @@ started image =
             enables = noInterrupts;
             requests = noInterrupts;
             errors = record { keyErr = true; accessErr = false; fifoOvfl = false; crcErr = false; parityErr = false };
-            control = 0;
+            modes = record { standBy = off; powerDown = off };
             rxLastBits = 0;
           };
       timer = stoppedAt 0;
@@ -76,9 +77,19 @@ programmingClocked a bs left m = cond (leb left 1) (programmed a bs m) (withComm
 abbrev pub commandClocked : Command → Machine → Machine
 commandClocked c m = whileProgramming programmingClocked (λ n. n) c m
 
--- One clock, for the timer and the programming.
+-- Whether the next clock that reaches a programming is its last one; and what a clock does that reaches timer and programming.
+abbrev pub endsProgramming : Command → Bool
+endsProgramming c = whileProgramming (λ a bs left. leb left 1) false c
+
+unfoldable pub reached : Machine → Machine
+reached m = commandClocked (m .command) (timerClock m)
+
+-- One clock (manual 9.10): it reaches timer and programming unless a power mode has hold as it begins; leavings go on by every clock.
 unfoldable pub clock : Machine → Machine
-clock m = commandClocked (m .command) (timerClock m)
+clock m =
+    cond (standsStill m)
+    (withModes (modesClocked false (m .status .modes)) m)
+    (withModes (modesClocked (endsProgramming (m .command)) (m .status .modes)) (reached m))
 
 unfoldable pub clocks : ℕ → Machine → Machine
 clocks zero m = m

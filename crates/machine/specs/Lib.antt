@@ -8,11 +8,13 @@ pub mod Timer
 pub mod Commands
 pub mod Memory
 pub mod Frames
+pub mod Power
 pub mod State
 pub mod WellFormedness
 pub mod Editions
 pub mod SingleClock
 pub mod ManyClocks
+pub mod PowerModes
 pub mod ProgrammingTime
 pub mod Numbers
 pub mod Readings

@@ -1,18 +1,19 @@
 -- Many clocks at once (manual 5.2, 6.3 and 9.7). The definition goes clock by clock; here stands what so many clocks leave without going through them:
 -- the timer by a division and a remainder, a programming by its count, and the clocks split where a programming ends. At most six end, however many
--- clocks come. The last fields are examples.
+-- clocks come. What clocks do while a power mode has hold is said in PowerModes. The last fields are examples.
 -- Assumes nothing.
 use Prim.Native.Nat.{ℕ, zero, suc, _+_, _-_, _/_, _%_, _^_, _<_, _≤_}
 use mathlib.Core.Bool.{true, false, cond, not, _&&_}
 use mathlib.Core.List.{List, [], _∷_, _++_}
 use mathlib.Core.Path.{_≡_}
-use lib.Dec.{ltb, leb, eqb}
-use Rattle.machine.specs.State.{Machine, Command, WriteE2, programming, whileProgramming, withCommand, withTimer}
+use lib.Dec.{ltb, eqb}
+use Rattle.machine.specs.State.{Machine, WriteE2, programming, withCommand, withTimer, withModes}
 use Rattle.machine.specs.Timer.{TAutoRestart, TimerReload, stoppedAt, runningAt, raisedTimer}
 use Rattle.machine.specs.Memory.{bytesFrom}
 use Rattle.machine.specs.Commands.{programs}
+use Rattle.machine.specs.Power.{modesClocked, standsStill}
 use Rattle.machine.specs.Refusals.{Call, advance}
-use Rattle.machine.specs.Events.{programmed, clock, clocks}
+use Rattle.machine.specs.Events.{programmed, endsProgramming, clock, clocks}
 use Rattle.machine.specs.WellFormedness.{Formed}
 use Rattle.machine.specs.Numbers.{afterStart, command, timerRun}
 
@@ -36,13 +37,13 @@ timerAfter n m =
     let period = 2 ^ (m .timer .prescaler) in
     cond (m .timer .running) (afterSteps (total / period) (total % period) m) m
 
--- How many programmings end within so many clocks.
-abbrev pub endsNext : Command → ℕ
-endsNext c = whileProgramming (λ a bs left. cond (leb left 1) 1 0) 0 c
+-- How many programmings end within so many clocks: with each that is the last of one and reaches it.
+abbrev pub endsNext : Machine → ℕ
+endsNext m = cond (standsStill m) 0 (cond (endsProgramming (m .command)) 1 0)
 
 unfoldable pub endsWithin : ℕ → Machine → ℕ
 endsWithin zero m = 0
-endsWithin (suc n) m = endsNext (m .command) + endsWithin n (clock m)
+endsWithin (suc n) m = endsNext m + endsWithin n (clock m)
 
 -- Five bytes for 16Ch, and one advance: the first is programmed alone, the next three up to the end of its block, and the last in the block behind.
 abbrev pub fiveWritten : List Call
@@ -54,16 +55,16 @@ fiveBytes n = afterStart (fiveWritten ++ advance n ∷ [])
 pub record ManyClocks : Type 0 where
   -- The clocks of a sum are those of its parts, one after the other.
   pub in-parts : (a b : ℕ) (m : Machine) → clocks (a + b) m ≡ clocks b (clocks a m)
-  -- Where nothing is programmed, clocks reach the timer alone.
-  pub timer-alone : (n : ℕ) (m : Machine) → Formed m → programs (m .command) ≡ false → clocks n m ≡ timerAfter n m
+  -- Where nothing is programmed and no mode has hold, clocks reach the timer alone.
+  pub timer-alone : (n : ℕ) (m : Machine) → Formed m → standsStill m ≡ false → programs (m .command) ≡ false → clocks n m ≡ timerAfter n m
   -- While a programming has clocks left, they fall by so many.
   pub before-end :
-      (n : ℕ) (m : Machine) (a left : ℕ) (bs : List ℕ) → Formed m → m .command ≡ WriteE2 (programming a bs left) → n < left →
+      (n : ℕ) (m : Machine) (a left : ℕ) (bs : List ℕ) → Formed m → standsStill m ≡ false → m .command ≡ WriteE2 (programming a bs left) → n < left →
       clocks n m ≡ withCommand (WriteE2 (programming a bs (left - n))) (timerAfter n m)
-  -- The last of them ends it.
+  -- The last of them ends it, and then a mode that has waited takes hold.
   pub at-end :
-      (m : Machine) (a left : ℕ) (bs : List ℕ) → Formed m → m .command ≡ WriteE2 (programming a bs left) →
-      clocks left m ≡ programmed a bs (timerAfter left m)
+      (m : Machine) (a left : ℕ) (bs : List ℕ) → Formed m → standsStill m ≡ false → m .command ≡ WriteE2 (programming a bs left) →
+      clocks left m ≡ withModes (modesClocked true (m .status .modes)) (programmed a bs (timerAfter left m))
   -- At most six programmings end: the one that runs, that of the bytes that fill its block, and four of a block each.
   pub at-most-six : (n : ℕ) (m : Machine) → Formed m → endsWithin n m ≤ 6
   -- Three programmings take three times 78,648 clocks, and not one less.

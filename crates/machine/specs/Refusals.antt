@@ -1,5 +1,5 @@
 -- Manual 10: which call is refused with which number. A call's tests come one after the other, 7 ahead of all others and 4 behind them; of a start
--- only the image is judged, its length first. The number 0 stands for no refusal, and 3 is never given: an advance is by any number of clocks.
+-- only the image is judged, its length first. A frame is refused while a power mode has hold. The number 0 stands for no refusal, and 3 is never given: an advance is by any number of clocks.
 -- Assumes nothing.
 use Prim.Native.Nat.{ℕ, _<_}
 use Rattle.bits.specs.Bits.{Bytes}
@@ -10,6 +10,7 @@ use lib.ListN.{length}
 use Rattle.edition.specs.Edition.{ofEither}
 use Rattle.machine.specs.State.{Machine}
 use Rattle.machine.specs.Frames.{sending, receiving}
+use Rattle.machine.specs.Power.{standsStill}
 use Rattle.machine.specs.WellFormed.{wellFormed}
 
 -- A call: one of the six events (manual 9), with all that it is given but the chip.
@@ -48,11 +49,13 @@ refusal m (advance clocks) = refuseIf (not (wellFormed m)) 7 0
 refusal m (takeFrame buffer) =
     refuseIf (not (wellFormed m)) 7
     (refuseIf (ltb (length buffer) 66) 6
-    (refuseIf (not (sending (m .command)) || eqb (length (m .held)) 0) 4 0))
+    (refuseIf (not (sending (m .command)) || eqb (length (m .held)) 0) 4
+    (refuseIf (standsStill m) 4 0)))
 refusal m (deliver bytes parities lastBits) =
     refuseIf (not (wellFormed m)) 7
     (refuseIf (not (frameFormed bytes parities lastBits)) 5
-    (refuseIf (not (receiving (m .command))) 4 0))
+    (refuseIf (not (receiving (m .command))) 4
+    (refuseIf (standsStill m) 4 0)))
 
 -- A call as a program makes it: its bytes are bytes.
 abbrev pub ByteCall : Call → Type 0

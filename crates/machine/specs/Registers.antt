@@ -7,11 +7,12 @@ use lib.Dec.{ltb, leb, eqb}
 use lib.ListN.{length, set}
 use Rattle.bits.specs.Bits.{bit, bitSet}
 use Rattle.crc.specs.Checksum.{resultOf}
-use Rattle.machine.specs.State.{Machine, Interrupts, Errors, withPage, withEnables, withRequests, withControl, withBitFraming, withRegisters, sixSources}
+use Rattle.machine.specs.State.{Machine, Interrupts, Errors, Modes, withPage, withEnables, withRequests, withModes, withBitFraming, withRegisters, sixSources}
 use Rattle.machine.specs.Fifo.{registerAt, offered, lostAt, firstOf, flushed, loAlert, hiAlert}
 use Rattle.machine.specs.Timer.{timerStarted, timerStopped}
 use Rattle.machine.specs.Commands.{codeOf, programs, commandWritten}
 use Rattle.machine.specs.Frames.{receiving, frameWaits}
+use Rattle.machine.specs.Power.{bitReads, modesWritten}
 
 -- Manual 2.1: with UsePageSelect (Page bit 7) the low three bits of the address choose within page PageSelect; without it the address is the register.
 abbrev pub mapped : ℕ → ℕ → ℕ
@@ -50,6 +51,10 @@ errorByte e = 64 * flag (e .keyErr) + 32 * flag (e .accessErr) + 16 * flag (e .f
 abbrev pub Err : Machine → Bool
 Err m = not (eqb (errorByte (m .status .errors)) 0)
 
+-- Control (manual 2.4): of its bits StandBy, 5, and PowerDown, 4, read back.
+abbrev pub controlByte : Modes → ℕ
+controlByte x = 32 * flag (bitReads (x .standBy)) + 16 * flag (bitReads (x .powerDown))
+
 -- ModemState (manual 2.3), by the data sheet's codes: AwaitingRx, 110, while a command is receiving, whatever is held; TxData, 010, while a frame waits; else
 -- Idle, 000.
 abbrev pub modemState : Machine → ℕ
@@ -78,7 +83,7 @@ registerRead r m =
     (cond (eqb r 0x05) (secondaryStatus m)
     (cond (eqb r 0x06) (interruptByte (m .status .enables))
     (cond (eqb r 0x07) (interruptByte (m .status .requests))
-    (cond (eqb r 0x09) (m .status .control)
+    (cond (eqb r 0x09) (controlByte (m .status .modes))
     (cond (eqb r 0x0A) (errorByte (m .status .errors))
     (cond (eqb r 0x0C) (m .timer .value)
     (cond (eqb r 0x0D) (crcResult m % 256)
@@ -91,13 +96,13 @@ registerRead r m =
 abbrev pub pageWritten : ℕ → Machine → Machine
 pageWritten v m = withPage (128 * bit v 7 + v % 8) m
 
--- Control (manual 2.4): first FlushFIFO, bit 0, then TStopNow, bit 2, then TStartNow, bit 1; StandBy, bit 5, and PowerDown, bit 4, are kept.
+-- Control (manual 2.4): first FlushFIFO, bit 0, then TStopNow, bit 2, then TStartNow, bit 1; StandBy, bit 5, and PowerDown, bit 4, each in every write.
 abbrev pub controlWritten : ℕ → Machine → Machine
 controlWritten v m =
     let flushes = cond (bitSet v 0) (flushed m) m in
     let stops = cond (bitSet v 2) (timerStopped flushes) flushes in
     let starts = cond (bitSet v 1) (timerStarted stops) stops in
-    withControl (32 * bit v 5 + 16 * bit v 4) starts
+    withModes (modesWritten (programs (m .command)) v (m .status .modes)) starts
 
 -- A write to a register, by its address after mapping; at the others it has no effect (manual 2.2).
 unfoldable pub registerWritten : ℕ → ℕ → Machine → Machine

@@ -86,13 +86,26 @@ ofProgramming there other (programming a bs left) = there a bs left
 abbrev pub whileProgramming : {X : Type 0} → (ℕ → List ℕ → ℕ → X) → X → Command → X
 whileProgramming there other c = withinWriteE2 (ofProgramming there other) other c
 
+-- How far a power mode is, StandBy (bit 5 of Control, 09h) or PowerDown (bit 4).
+pub data Mode : Type 0 where
+  off : Mode
+  -- its bit is set, and it waits for the end of a programming
+  waiting : Mode
+  -- it has hold
+  inHold : Mode
+  -- it still has hold, and is being left; so many clocks are to go
+  leaving : ℕ → Mode
+
+pub record Modes : Type 0 where
+  pub standBy : Mode
+  pub powerDown : Mode
+
 -- What the status registers show beyond what is derived.
 pub record Status : Type 0 where
   pub enables : Interrupts
   pub requests : Interrupts
   pub errors : Errors
-  -- Control (09h): StandBy and PowerDown, bits 5 and 4
-  pub control : ℕ
+  pub modes : Modes
   pub rxLastBits : ℕ
 
 pub record Machine : Type 0 where
@@ -134,9 +147,9 @@ machineOf page command held lostSum status timer checksum key bitFraming registe
       edition = edition;
     }
 
-abbrev pub statusOf : Interrupts → Interrupts → Errors → ℕ → ℕ → Status
-statusOf enables requests errors control rxLastBits =
-    record { enables = enables; requests = requests; errors = errors; control = control; rxLastBits = rxLastBits }
+abbrev pub statusOf : Interrupts → Interrupts → Errors → Modes → ℕ → Status
+statusOf enables requests errors modes rxLastBits =
+    record { enables = enables; requests = requests; errors = errors; modes = modes; rxLastBits = rxLastBits }
 
 abbrev pub sixSources : Bool → Bool → Bool → Bool → Bool → Bool → Interrupts
 sixSources timer tx rx idle hiAlert loAlert =
@@ -185,16 +198,16 @@ withEdition x m = machineOf (m .page) (m .command) (m .held) (m .lostSum) (m .st
 
 -- Setters of the status.
 abbrev pub withEnables : Interrupts → Machine → Machine
-withEnables x m = withStatus (statusOf x (m .status .requests) (m .status .errors) (m .status .control) (m .status .rxLastBits)) m
+withEnables x m = withStatus (statusOf x (m .status .requests) (m .status .errors) (m .status .modes) (m .status .rxLastBits)) m
 
 abbrev pub withRequests : Interrupts → Machine → Machine
-withRequests x m = withStatus (statusOf (m .status .enables) x (m .status .errors) (m .status .control) (m .status .rxLastBits)) m
+withRequests x m = withStatus (statusOf (m .status .enables) x (m .status .errors) (m .status .modes) (m .status .rxLastBits)) m
 
 abbrev pub withErrors : Errors → Machine → Machine
-withErrors x m = withStatus (statusOf (m .status .enables) (m .status .requests) x (m .status .control) (m .status .rxLastBits)) m
+withErrors x m = withStatus (statusOf (m .status .enables) (m .status .requests) x (m .status .modes) (m .status .rxLastBits)) m
 
-abbrev pub withControl : ℕ → Machine → Machine
-withControl x m = withStatus (statusOf (m .status .enables) (m .status .requests) (m .status .errors) x (m .status .rxLastBits)) m
+abbrev pub withModes : Modes → Machine → Machine
+withModes x m = withStatus (statusOf (m .status .enables) (m .status .requests) (m .status .errors) x (m .status .rxLastBits)) m
 
 abbrev pub withRxLastBits : ℕ → Machine → Machine
-withRxLastBits x m = withStatus (statusOf (m .status .enables) (m .status .requests) (m .status .errors) (m .status .control) x) m
+withRxLastBits x m = withStatus (statusOf (m .status .enables) (m .status .requests) (m .status .errors) (m .status .modes) x) m

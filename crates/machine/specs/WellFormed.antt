@@ -9,9 +9,11 @@ use lib.Dec.{ltb, leb, eqb}
 use lib.ListN.{length}
 use Rattle.crc.specs.Checksum.{CRC8}
 use Rattle.edition.specs.Edition.{isOf}
-use Rattle.machine.specs.State.{Machine, Command, Writing, Timer, Checksum, withinWriteE2, whileProgramming}
-use Rattle.machine.specs.State.{Idle, WriteE2, ReadE2, LoadConfig, LoadKeyE2, LoadKey, CalcCRC, Transmit, Receive, TransceiveSending, TransceiveReceiving, addressing, ready, programming}
+use Rattle.machine.specs.State.{Machine, Command, Writing, Timer, Checksum, Mode, Modes, withinWriteE2, whileProgramming}
+use Rattle.machine.specs.State.{Idle, WriteE2, ReadE2, LoadConfig, LoadKeyE2, LoadKey, CalcCRC, Transmit, Receive, TransceiveSending, TransceiveReceiving, addressing, ready, programming, off, waiting, inHold, leaving}
 use Rattle.machine.specs.Memory.{programmingClocks}
+use Rattle.machine.specs.Commands.{programs}
+use Rattle.machine.specs.Power.{standByClocks, powerDownClocks}
 
 -- The FIFO holds 64 bytes or fewer.
 abbrev pub fifoFormed : List ℕ → Bool
@@ -61,9 +63,19 @@ nothingPends c held = leb (length held) (waits c)
 abbrev pub checksumFormed : Checksum → Bool
 checksumFormed c = cond (CRC8 (c .mode)) (ltb (c .register) 0x100) true
 
--- What a register never shows as 1 is 0: Page bits 6-3, Control but for bits 5 and 4, and SecondaryStatus bits 4-3, above RxLastBits.
-abbrev pub bitsFormed : ℕ → ℕ → ℕ → Bool
-bitsFormed page control rxLastBits = eqb (page / 8 % 16) 0 && (eqb (control % 16) 0 && (eqb (control / 64) 0 && ltb rxLastBits 8))
+-- What a register never shows as 1 is 0: Page bits 6-3, and SecondaryStatus bits 4-3, above RxLastBits.
+abbrev pub bitsFormed : ℕ → ℕ → Bool
+bitsFormed page rxLastBits = eqb (page / 8 % 16) 0 && ltb rxLastBits 8
+
+-- A power mode waits only for a programming, and its leaving has at least one clock to go and at most its whole number.
+abbrev pub modeFormed : ℕ → Bool → Mode → Bool
+modeFormed whole programs off = true
+modeFormed whole programs waiting = programs
+modeFormed whole programs inHold = true
+modeFormed whole programs (leaving n) = leb 1 n && leb n whole
+
+abbrev pub modesFormed : Bool → Modes → Bool
+modesFormed programs x = modeFormed standByClocks programs (x .standBy) && modeFormed powerDownClocks programs (x .powerDown)
 
 -- The memory is of the machine's own edition, and every part is formed.
 unfoldable pub wellFormed : Machine → Bool
@@ -74,7 +86,8 @@ wellFormed m =
     && (commandFormed (m .command)
     && (nothingPends (m .command) (m .held)
     && (checksumFormed (m .checksum)
-    && bitsFormed (m .page) (m .status .control) (m .status .rxLastBits))))))
+    && (modesFormed (programs (m .command)) (m .status .modes)
+    && bitsFormed (m .page) (m .status .rxLastBits)))))))
 
 -- What every chip's machine is by the types of its fields: bytes are bytes, and memories have their sizes. It is no part of refusal 7.
 abbrev pub latchedBytes : Command → List ℕ

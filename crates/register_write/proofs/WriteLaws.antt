@@ -7,9 +7,12 @@ use mathlib.Core.Bool.{Bool, true, false, cond, _&&_, _||_}
 use lib.Dec.{ltb, leb, eqb, lit<}
 use lib.ListN.{length, set, length-set}
 use borrow.Author.Tests.{ne-eqb, lt-leb, le-leb, lt-ltb, le-ltb}
-use Rattle.machine.specs.State.{Machine, withControl, withRegisters as State·withRegisters}
+use Rattle.bits.specs.Bits.{bitSet}
+use Rattle.machine.specs.State.{Machine, withModes, withRegisters as State·withRegisters}
 use Rattle.machine.specs.Fifo.{registerAt, flushed, loAlert, hiAlert, alerted}
 use Rattle.machine.specs.Timer.{timerStarted, timerStopped}
+use Rattle.machine.specs.Commands.{programs}
+use Rattle.machine.specs.Power.{modesWritten}
 use Rattle.machine.specs.Registers.{pageWritten, registerWritten}
 use Rattle.state.specs.View.{view, viewOf, withRegisters}
 use Rattle.state.specs.Formed.{fieldsFormed}
@@ -18,7 +21,7 @@ use Rattle.state.specs.declared.Chip.{Chip}
 use Rattle.state.proofs.TurnLaws.{stays, then, becomes, sized-registers}
 use Rattle.state_fifo.specs.Alerts.{alertBits, alertsOf, alertedFrom}
 use Rattle.state_fifo.proofs.AlertLaws.{alerted-from, alerted-same}
-use Rattle.register_write.specs.Written.{otherWritten}
+use Rattle.register_write.specs.Written.{otherWritten, bothWritten}
 
 -- Where the held bytes and FIFOLevel stay, no alert is new.
 pub quiet : (m m′ : Machine) → m′ .held ≡ m .held → registerAt m′ 0x29 ≡ registerAt m 0x29 → m′ ≡ alerted m m′
@@ -99,20 +102,29 @@ module _ (r v : ℕ) (m : Machine) where
         go false false n01 n02 =
             sym (not-known other n01 n02 (ne-eqb r 0x06 n06) (ne-eqb r 0x07 n07) (ne-eqb r 0x09 n09) (ne-eqb r 0x0F n0F) ∙ simp (lt-leb 0x10 r low))
 
--- Control after a flush: neither the timer nor the stored bits move an alert.
+-- Control: neither the timer nor the power modes move an alert. The modes are written by the command and the modes from before: a flush, a stop and a start
+-- leave both as they are.
+abbrev timed : Bool → Bool → Machine → Machine
+timed stop start m = let stops = cond stop (timerStopped m) m in cond start (timerStarted stops) stops
+
 abbrev pub controls : Bool → Bool → ℕ → Machine → Machine
-controls stop start x m =
-    let stops = cond stop (timerStopped m) m in
-    withControl x (cond start (timerStarted stops) stops)
+controls stop start v m = bothWritten v (timed stop start m)
 
-controls-alerted : (stop start : Bool) (x : ℕ) (b m : Machine) → controls stop start x (alerted b m) ≡ alerted b (controls stop start x m)
+controls-alerted : (stop start : Bool) (v : ℕ) (b m : Machine) →
+    controls stop start v (alerted b m) ≡ alerted b (withModes (modesWritten (programs (m .command)) v (m .status .modes)) (timed stop start m))
 unfolding alerted hiAlert loAlert
-controls-alerted true true x b m = refl
-controls-alerted true false x b m = refl
-controls-alerted false true x b m = refl
-controls-alerted false false x b m = refl
+controls-alerted true true v b m = refl
+controls-alerted true false v b m = refl
+controls-alerted false true v b m = refl
+controls-alerted false false v b m = refl
 
-pub control-alerted : (flush stop start : Bool) (x : ℕ) (m : Machine) →
-    controls stop start x (cond flush (alerted m (flushed m)) m) ≡ alerted m (controls stop start x (cond flush (flushed m) m))
-control-alerted true stop start x m = controls-alerted stop start x m (flushed m)
-control-alerted false stop start x m = ap (controls stop start x) (sym (alerted-same m)) ∙ controls-alerted stop start x m m
+pub control-alerted : (v : ℕ) (m : Machine) →
+    controls (bitSet v 2) (bitSet v 1) v (cond (bitSet v 0) (alerted m (flushed m)) m) ≡ alerted m (registerWritten 0x09 v m)
+unfolding registerWritten
+control-alerted v m = go (bitSet v 0)
+  where
+    go : (flush : Bool) →
+        controls (bitSet v 2) (bitSet v 1) v (cond flush (alerted m (flushed m)) m)
+        ≡ alerted m (withModes (modesWritten (programs (m .command)) v (m .status .modes)) (timed (bitSet v 2) (bitSet v 1) (cond flush (flushed m) m)))
+    go true = controls-alerted (bitSet v 2) (bitSet v 1) v m (flushed m)
+    go false = ap (controls (bitSet v 2) (bitSet v 1) v) (sym (alerted-same m)) ∙ controls-alerted (bitSet v 2) (bitSet v 1) v m m

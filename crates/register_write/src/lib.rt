@@ -1,22 +1,26 @@
 // A write to a register, by its address after mapping: to every one but Command (01h) and FIFOData (02h). The alerts are judged over it: only FlushFIFO and a
 // write to FIFOLevel (29h) can move them.
-ghost use Prim.Native.Nat.{_/_};
+ghost use Prim.Native.Nat.{_/_, _<_};
 ghost use mathlib.Core.Path.{_≡_};
 ghost use mathlib.Core.Bool.{cond};
 ghost use Rattle.machine.specs.Fifo.{flushed as Fifo·flushed, alerted as Fifo·alerted};
 ghost use Rattle.machine.specs.Timer.{timerStarted, timerStopped};
 ghost use Rattle.machine.specs.Registers.{interruptsWritten, registerWritten};
 ghost use Rattle.state.specs.View.{interruptsOf};
-ghost use Rattle.state.specs.Lent.{clocksState, stateRegisters, clocksStateRegisters, numbersStateRegisters, clocksNumbersStateRegisters};
+ghost use Rattle.state.specs.Lent.{clocksState, clocksNumbersState, stateRegisters, clocksStateRegisters, numbersStateRegisters, clocksNumbersStateRegisters};
 ghost use Rattle.state.specs.Turns.{Turns};
-ghost use Rattle.register_write.specs.Written.{otherWritten};
+ghost use Rattle.register_write.specs.Written.{otherWritten, bitAfter, NumberWritten, bothWritten};
 use state::BIT_FRAMING;
 use state::CONTROL;
 use state::ENABLES;
 use state::LOST_SUM;
 use state::PAGE;
+use state::POWER_DOWN;
 use state::REQUESTS;
+use state::STAND_BY;
 use state::cleared;
+use state::control_byte;
+use state::programs;
 use state_fifo::alerted;
 use state_fifo::alerts_of;
 use state_fifo::emptied;
@@ -88,7 +92,63 @@ fn started(clocks: &mut [u32; 2], state: &mut [u8; 24], registers: &[u8; 32], fl
     }
 }
 
-// Control is written (manual 2.4): the FIFO is flushed, the timer stopped and then started, as bits 0, 2 and 1 say; bits 5 and 4 are stored.
+// The bit of a power mode after a write to it: a mode with hold keeps its bit until it is left.
+fn mode_bit(was: bool, number: u16, bit: bool) -> bool
+    ensures { λ r. ⌜ r ≡ bitAfter was number bit ⌝ }
+{
+    bit | (was & (number >= 0x8000))
+}
+
+// The number of a power mode after a write to its bit. From off it takes hold, or waits for a programming; a mode that waits has no number; one with hold
+// keeps it by a 1, and by a 0 begins its leaving, if that has not begun.
+fn mode_number(was: bool, number: u16, bit: bool, programs: bool, begun: u16) -> u16
+    ensures { λ r. ⌜ (0x8000 < begun → NumberWritten was number bit programs begun r) ⌝ }
+{
+    if !was {
+        if bit & !programs {
+            return 0x8000;
+        }
+        return 0;
+    }
+    if number < 0x8000 {
+        return 0;
+    }
+    if bit {
+        return 0x8000;
+    }
+    if number == 0x8000 {
+        return begun;
+    }
+    number
+}
+
+// StandBy and PowerDown (manual 9.10), each by its own bit of the byte written. Nothing is to be done where both are off and stay so.
+fn modes_written(clocks: &[u32; 2], numbers: &mut [u16; 6], state: &mut [u8; 24], v: u8)
+    ensures { λ r.
+        let before = clocksNumbersState (now (clocks .entry)) (now (numbers .entry)) (now (state .entry)) in
+        let after = clocksNumbersState (now (clocks .entry)) (now (numbers .exit)) (now (state .exit)) in
+        ⌜ Turns (bothWritten v) before after ⌝ }
+{
+    let control = state[CONTROL];
+    if (control == 0) & (v / 16 % 4 == 0) {
+        return;
+    }
+    let programming = programs(clocks, state);
+    let standby = numbers[STAND_BY];
+    let powerdown = numbers[POWER_DOWN];
+    let first = control / 32 % 2 == 1;
+    let second = control / 16 % 2 == 1;
+    let high = v / 32 % 2 == 1;
+    let low = v / 16 % 2 == 1;
+    numbers[STAND_BY] = mode_number(first, standby, high, programming, 0x8004);
+    numbers[POWER_DOWN] = mode_number(second, powerdown, low, programming, 0x8200);
+    state[CONTROL] = control_byte(
+        mode_bit(first, standby, high),
+        mode_bit(second, powerdown, low),
+    );
+}
+
+// Control is written (manual 2.4): the FIFO is flushed, the timer stopped and then started, as bits 0, 2 and 1 say; bits 5 and 4 are the power modes'.
 fn control_written(
     clocks: &mut [u32; 2],
     numbers: &mut [u16; 6],
@@ -106,7 +166,7 @@ fn control_written(
     flushed(numbers, state, registers, v % 2 == 1);
     stopped(clocks, state, v / 4 % 2 == 1);
     started(clocks, state, registers, v / 2 % 2 == 1);
-    state[CONTROL] = 32 * (v / 32 % 2) + 16 * (v / 16 % 2);
+    modes_written(clocks, numbers, state, v);
 }
 
 // Page is stored with its bits 7 and 2-0, at every eighth address; 10h-2Fh are stored whole. Nothing is done at Command and FIFOData, and at the registers

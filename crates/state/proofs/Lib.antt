@@ -1,5 +1,6 @@
 pub mod TurnLaws
 pub mod StoreLaws
+pub mod PowerLaws
 pub mod FlagLaws
 pub mod RingLaws
 pub mod StageLaws

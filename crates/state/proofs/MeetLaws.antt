@@ -9,9 +9,11 @@ use lib.Dec.{ltb, eqb}
 use lib.ListN.{length}
 use borrow.Author.Tests.{ltb-true, lt-ltb, le-ltb}
 use Rattle.edition.specs.Edition.{ofEither}
-use Rattle.machine.specs.WellFormed.{wellFormed, timerFormed, commandFormed, nothingPends, checksumFormed, bitsFormed}
+use Rattle.machine.specs.WellFormed.{wellFormed, timerFormed, commandFormed, nothingPends, checksumFormed, modesFormed}
 use Rattle.machine.specs.WellFormedness.{Formed}
 use Rattle.machine.specs.Refusals.{Call, start, hostRead, hostWrite, advance, takeFrame, deliver, refusal, refuseIf, frameFormed, ByteCall}
+use Rattle.machine.specs.Commands.{programs}
+use Rattle.machine.specs.Power.{standsStill}
 use Rattle.machine.specs.Frames.{sending, receiving, frameWaits}
 use Rattle.machine.specs.Events.{Outcome, accepted, bufferOf}
 use Rattle.machine.proofs.Performing.{as-accepted}
@@ -93,13 +95,8 @@ module _ (c : Chip) (formed : chipFormed c ≡ true) where
       let (timed, h₂) = each (timerFormed (m .timer)) _ (well-others m machine-well) in
       let (commanded, h₃) = each (commandFormed (m .command)) _ h₂ in
       let (rests, h₄) = each (nothingPends (m .command) (m .held)) _ h₃ in
-      let (summed, bits) = each (checksumFormed (m .checksum)) _ h₄ in below (core c .page) (core c .control) (core c .rxLastBits) bits
-    where
-      below : (page control last : ℕ) → bitsFormed page control last ≡ true → last < 8
-      below page control last h =
-          let (p, h₁) = each (eqb (page / 8 % 16) 0) _ h in
-          let (q, h₂) = each (eqb (control % 16) 0) _ h₁ in
-          let (r, h₃) = each (eqb (control / 64) 0) _ h₂ in ltb-true last 8 h₃
+      let (summed, h₅) = each (checksumFormed (m .checksum)) _ h₄ in
+      let (modes, bits) = each (modesFormed (programs (m .command)) (m .status .modes)) _ h₅ in ltb-true (core c .rxLastBits) 8 (each (eqb (core c .page / 8 % 16) 0) _ bits .1)
 
   -- The order of refusals, from 7 on, of a chip that is well formed: the number, and that the machine's is the same.
   by-call : (call : Call) (n : ℕ) → refusal (view c) call ≡ n → cond (chipFormed c) (refusal (view c) call) 7 ≡ n
@@ -120,40 +117,48 @@ module _ (c : Chip) (formed : chipFormed c ≡ true) where
   unfolding chipRefusal refusal
   advance-refusal clocks = let m = well-then 0 in (by-call (advance clocks) 0 m, m)
 
-  -- A take, by the room in the buffer and by whether a frame waits, which is judged of the core.
+  -- A take, by the room in the buffer, by whether a frame waits, and by whether a power mode has hold, which are judged of the core.
   module _ (buffer : List ℕ) where
-    take-refusal : (n : ℕ) → refuseIf (ltb (length buffer) 66) 6 (refuseIf (not (sending (view c .command)) || eqb (length (view c .held)) 0) 4 0) ≡ n →
+    abbrev takeThen : ℕ
+    takeThen = refuseIf (not (sending (view c .command)) || eqb (length (view c .held)) 0) 4 (refuseIf (standsStill (view c)) 4 0)
+
+    take-refusal : (n : ℕ) → refuseIf (ltb (length buffer) 66) 6 takeThen ≡ n →
         (chipRefusal c (takeFrame buffer) ≡ n) × (refusal (view c) (takeFrame buffer) ≡ n)
     unfolding chipRefusal refusal
     take-refusal n e = let m = well-then _ ∙ e in (by-call (takeFrame buffer) n m, m)
 
     pub take-short : length buffer < 66 → (chipRefusal c (takeFrame buffer) ≡ 6) × (refusal (view c) (takeFrame buffer) ≡ 6)
-    take-short short = take-refusal 6 (ap (λ (t : Bool). refuseIf t 6 (refuseIf (not (sending (view c .command)) || eqb (length (view c .held)) 0) 4 0)) (lt-ltb (length buffer) 66 short))
+    take-short short = take-refusal 6 (ap (λ (t : Bool). refuseIf t 6 takeThen) (lt-ltb (length buffer) 66 short))
 
-    pub take-judged : 66 ≤ length buffer → {w : Bool} → w ≡ frameWaits (view c) →
-        (t : Bool) → w ≡ t → let n = refuseIf (not t) 4 0 in (chipRefusal c (takeFrame buffer) ≡ n) × (refusal (view c) (takeFrame buffer) ≡ n)
-    take-judged room {w} is t e =
-        take-refusal (refuseIf (not t) 4 0)
-        (ap (λ (b : Bool). refuseIf b 6 (refuseIf (not (sending (view c .command)) || eqb (length (view c .held)) 0) 4 0)) (le-ltb (length buffer) 66 room)
-        ∙ ap (λ (b : Bool). refuseIf b 4 0)
-        (waits-not (sending (view c .command)) (eqb (length (view c .held)) 0) ∙ ap not (sym is ∙ e)))
+    pub take-judged : 66 ≤ length buffer → (t s : Bool) → frameWaits (view c) ≡ t → standsStill (view c) ≡ s →
+        let n = refuseIf (not t) 4 (refuseIf s 4 0) in (chipRefusal c (takeFrame buffer) ≡ n) × (refusal (view c) (takeFrame buffer) ≡ n)
+    take-judged room t s waits stands =
+        take-refusal (refuseIf (not t) 4 (refuseIf s 4 0))
+        (ap (λ (b : Bool). refuseIf b 6 takeThen) (le-ltb (length buffer) 66 room)
+        ∙ ap (λ (b : Bool). refuseIf b 4 (refuseIf (standsStill (view c)) 4 0))
+        (waits-not (sending (view c .command)) (eqb (length (view c .held)) 0) ∙ ap not waits)
+        ∙ ap (λ (b : Bool). refuseIf (not t) 4 (refuseIf b 4 0)) stands)
 
-  -- A delivery, by whether the frame is formed, and whether the chip receives.
+  -- A delivery, by whether the frame is formed, whether the chip receives, and whether a power mode has hold.
   module _ (bytes parities : List ℕ) (lastBits : ℕ) {f : Bool} (judges : f ≡ frameFormed bytes parities lastBits) where
-    deliver-refusal : (n : ℕ) → refuseIf (not (frameFormed bytes parities lastBits)) 5 (refuseIf (not (receiving (view c .command))) 4 0) ≡ n →
+    abbrev deliverThen : ℕ
+    deliverThen = refuseIf (not (receiving (view c .command))) 4 (refuseIf (standsStill (view c)) 4 0)
+
+    deliver-refusal : (n : ℕ) → refuseIf (not (frameFormed bytes parities lastBits)) 5 deliverThen ≡ n →
         (chipRefusal c (deliver bytes parities lastBits) ≡ n) × (refusal (view c) (deliver bytes parities lastBits) ≡ n)
     unfolding chipRefusal refusal
     deliver-refusal n e = let m = well-then _ ∙ e in (by-call (deliver bytes parities lastBits) n m, m)
 
     pub deliver-unformed : f ≡ false → (chipRefusal c (deliver bytes parities lastBits) ≡ 5) × (refusal (view c) (deliver bytes parities lastBits) ≡ 5)
-    deliver-unformed e = deliver-refusal 5 (ap (λ (t : Bool). refuseIf (not t) 5 (refuseIf (not (receiving (view c .command))) 4 0)) (sym judges ∙ e))
+    deliver-unformed e = deliver-refusal 5 (ap (λ (t : Bool). refuseIf (not t) 5 deliverThen) (sym judges ∙ e))
 
-    pub deliver-judged : f ≡ true → {r : Bool} → r ≡ receiving (view c .command) →
-        (t : Bool) → r ≡ t → let n = refuseIf (not t) 4 0 in (chipRefusal c (deliver bytes parities lastBits) ≡ n) × (refusal (view c) (deliver bytes parities lastBits) ≡ n)
-    deliver-judged whole {r} is t e =
-        deliver-refusal (refuseIf (not t) 4 0)
-        (ap (λ (b : Bool). refuseIf (not b) 5 (refuseIf (not (receiving (view c .command))) 4 0)) (sym judges ∙ whole)
-        ∙ ap (λ (b : Bool). refuseIf (not b) 4 0) (sym is ∙ e))
+    pub deliver-judged : f ≡ true → (t s : Bool) → receiving (view c .command) ≡ t → standsStill (view c) ≡ s →
+        let n = refuseIf (not t) 4 (refuseIf s 4 0) in (chipRefusal c (deliver bytes parities lastBits) ≡ n) × (refusal (view c) (deliver bytes parities lastBits) ≡ n)
+    deliver-judged whole t s receives stands =
+        deliver-refusal (refuseIf (not t) 4 (refuseIf s 4 0))
+        (ap (λ (b : Bool). refuseIf (not b) 5 deliverThen) (sym judges ∙ whole)
+        ∙ ap (λ (b : Bool). refuseIf (not b) 4 (refuseIf (standsStill (view c)) 4 0)) receives
+        ∙ ap (λ (b : Bool). refuseIf (not t) 4 (refuseIf b 4 0)) stands)
 
 -- A call but a start on a malformed chip.
 abbrev JudgesChip : Call → Type 0

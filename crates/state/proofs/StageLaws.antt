@@ -1,15 +1,17 @@
--- The stages one by one: what each stage's command has, the command of any stage has; and which stages send and receive.
+-- The stages one by one: what each stage's command has, the command of any stage has; and which stages send, receive and program.
 -- Assumes nothing.
 use Prim.Native.Nat.{ℕ, _%_}
-use mathlib.Core.Path.{_≡_, refl, sym, subst}
-use mathlib.Core.Bool.{false, cond, _||_}
+use mathlib.Core.Path.{_≡_, refl, sym, subst, _∙_}
+use mathlib.Core.Bool.{Bool, true, false, cond, not, and-false, _&&_, _||_}
 use mathlib.Core.List.{List}
 use lib.Dec.{eqb}
 use borrow.Author.Tests.{eqb-true}
-use Rattle.machine.specs.State.{Command, Idle, WriteE2, ReadE2, LoadConfig, LoadKeyE2, LoadKey, CalcCRC, Transmit, Receive, TransceiveSending, TransceiveReceiving, addressing, ready}
+use Rattle.machine.specs.State.{Command, Writing, Idle, WriteE2, ReadE2, LoadConfig, LoadKeyE2, LoadKey, CalcCRC, Transmit, Receive, TransceiveSending, TransceiveReceiving, addressing, ready, programming}
+use Rattle.machine.specs.Commands.{programs}
 use Rattle.machine.specs.Frames.{sending, receiving}
 use Rattle.machine.proofs.Cases.{by-cond}
 use Rattle.state.specs.View.{Core, writingOf, commandOf}
+use Rattle.state.specs.Formed.{writes}
 
 -- No stage but Idle's.
 pub record Other (s : ℕ) : Type 0 where
@@ -45,3 +47,17 @@ stage-sends k latch =
 pub stage-receives : (k : Core) (latch : List ℕ) → (eqb (k .stage) 0x96 || eqb (k .stage) 0x9E) ≡ receiving (commandOf k latch)
 stage-receives k latch =
     by-stage (λ s command. (eqb s 0x96 || eqb s 0x9E) ≡ receiving command) k latch refl refl refl refl refl refl refl refl refl refl refl (λ o. simp (o .n96, o .n9E))
+
+-- A WriteE2 programs where clocks are left, and no other command does.
+by-left : (none : Bool) (resting : Writing) (a : ℕ) (bs : List ℕ) (left : ℕ) → programs (WriteE2 resting) ≡ false →
+    programs (WriteE2 (cond none resting (programming a bs left))) ≡ (not none && true)
+by-left true resting a bs left rests = rests
+by-left false resting a bs left rests = refl
+
+pub stage-programs : (k : Core) (latch : List ℕ) → programs (commandOf k latch) ≡ (not (eqb (k .left) 0) && writes (k .stage))
+stage-programs k latch =
+    by-stage (λ s command. programs command ≡ (not (eqb (k .left) 0) && writes s)) k latch (by-left (eqb (k .left) 0) addressing _ _ _ refl) (by-left (eqb (k .left) 0) (ready _) _ _ _ refl)
+    none none none none none none none none none (λ o. none ∙ sym (simp (o .n01, o .n41)))
+  where
+    none : false ≡ (not (eqb (k .left) 0) && false)
+    none = sym (and-false (not (eqb (k .left) 0)))

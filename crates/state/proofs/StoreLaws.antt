@@ -15,7 +15,7 @@ use Rattle.bits.proofs.Below.{all}
 use Rattle.machine.specs.State.{Machine}
 use Rattle.machine.proofs.WellFormed.Parts.{both, each}
 use Rattle.state.specs.View.{at, core, coreBy, viewOf, view, withNumbers, withState}
-use Rattle.state.specs.Formed.{listed, writes, batchFits, agree, stageFormed, byteFormed, bytesFormed, fieldsBy, fieldsFormed}
+use Rattle.state.specs.Formed.{listed, writes, batchFits, agree, stageFormed, modesAgree, byteFormed, bytesFormed, fieldsBy, fieldsFormed}
 use Rattle.state.specs.Turns.{Sizes, Turned}
 use Rattle.state.specs.declared.Chip.{Chip}
 use Rattle.state.proofs.TurnLaws.{sized-numbers, sized-state}
@@ -76,9 +76,16 @@ module _ (c : Chip) (formed : fieldsFormed c ≡ true) where
   unfolding fieldsFormed
   stage-agrees = each (stageFormed (core c .stage) (core c .latched) (core c .left) (core c .next)) _ formed .0
 
-  pub bytes-agree : bytesFormed (at (c .state)) ≡ true
+  -- what follows the clauses on the stage
+  pub others-agree : (modesAgree (core c .control) (core c .standBy) (core c .powerDown) && bytesFormed (at (c .state))) ≡ true
   unfolding fieldsFormed
-  bytes-agree = each (stageFormed (core c .stage) (core c .latched) (core c .left) (core c .next)) _ formed .1
+  others-agree = each (stageFormed (core c .stage) (core c .latched) (core c .left) (core c .next)) _ formed .1
+
+  pub modes-agree : modesAgree (core c .control) (core c .standBy) (core c .powerDown) ≡ true
+  modes-agree = each (modesAgree (core c .control) (core c .standBy) (core c .powerDown)) _ others-agree .0
+
+  pub bytes-agree : bytesFormed (at (c .state)) ≡ true
+  bytes-agree = each (modesAgree (core c .control) (core c .standBy) (core c .powerDown)) _ others-agree .1
 
   pub next-near : ltb (core c .next) 0x200 ≡ true
   next-near = each (agree (ltb 0 (core c .left)) (writes (core c .stage) && batchFits (core c .next) (core c .latched))) _ (each (listed (core c .stage)) _ stage-agrees .1) .1
@@ -86,20 +93,27 @@ module _ (c : Chip) (formed : fieldsFormed c ≡ true) where
   pub byte-agrees : (k : ℕ) → k < 12 → byteFormed k (at (c .state) k) ≡ true
   byte-agrees k h = own-formed (at (c .state)) 12 k h bytes-agree
 
--- A store to any byte but the stage and the latched count keeps the fields' agreement, where the new byte is formed.
-pub keeps-byte : (c : Chip) (k x : ℕ) → (eqb 10 k || eqb 12 k) ≡ false → (bytesFormed (at (c .state)) ≡ true → byteFormed k x ≡ true) → fieldsFormed c ≡ true →
+-- A store to any byte but Control, the stage and the latched count keeps the fields' agreement, where the new byte is formed.
+abbrev pub apart : ℕ → Bool
+apart k = eqb 1 k || (eqb 10 k || eqb 12 k)
+
+pub keeps-byte : (c : Chip) (k x : ℕ) → apart k ≡ false → (bytesFormed (at (c .state)) ≡ true → byteFormed k x ≡ true) → fieldsFormed c ≡ true →
     fieldsBy (coreBy (at (c .clocks)) (at (c .numbers)) (put k x (at (c .state)))) (put k x (at (c .state))) ≡ true
 keeps-byte c k x other fits formed =
-    let bytes = bytes-agree c formed in both (go (eqb 10 k) (eqb 12 k) other (stage-agrees c formed)) (put-formed (at (c .state)) k x 12 (fits bytes) bytes)
+    let bytes = bytes-agree c formed in
+    go (eqb 1 k) (eqb 10 k) (eqb 12 k) other (stage-agrees c formed) (modes-agree c formed) (put-formed (at (c .state)) k x 12 (fits bytes) bytes)
   where
-    go : (a b : Bool) → (a || b) ≡ false → stageFormed (core c .stage) (core c .latched) (core c .left) (core c .next) ≡ true →
-        stageFormed (cond b x (core c .stage)) (cond a x (core c .latched)) (core c .left) (core c .next) ≡ true
-    go false false e p = p
-    go false true e p = absurd (true≢false e)
-    go true b e p = absurd (true≢false e)
+    go : (a b d : Bool) → (a || (b || d)) ≡ false → stageFormed (core c .stage) (core c .latched) (core c .left) (core c .next) ≡ true →
+        modesAgree (core c .control) (core c .standBy) (core c .powerDown) ≡ true → bytesFormed (put k x (at (c .state))) ≡ true →
+        (stageFormed (cond d x (core c .stage)) (cond b x (core c .latched)) (core c .left) (core c .next)
+        && (modesAgree (cond a x (core c .control)) (core c .standBy) (core c .powerDown) && bytesFormed (put k x (at (c .state))))) ≡ true
+    go false false false e p q r = both p (both q r)
+    go false false true e p q r = absurd (true≢false e)
+    go false true d e p q r = absurd (true≢false e)
+    go true b d e p q r = absurd (true≢false e)
 
 -- Such a store: the machine of the bytes with one anew is f's (at a known index that is `refl`, or a law of that byte alone).
-pub set-byte : (f : Machine → Machine) (l : List ℕ) (k x : ℕ) (c : Chip) → k < 24 → (eqb 10 k || eqb 12 k) ≡ false → Sizes (withState l c) →
+pub set-byte : (f : Machine → Machine) (l : List ℕ) (k x : ℕ) (c : Chip) → k < 24 → apart k ≡ false → Sizes (withState l c) →
     viewOf (coreBy (at (c .clocks)) (at (c .numbers)) (put k x (at l))) c ≡ f (view (withState l c)) →
     (bytesFormed (at l) ≡ true → byteFormed k x ≡ true) → Turned f (withState l c) (withState (set l k x) c)
 unfolding viewOf
@@ -107,11 +121,18 @@ set-byte f l k x c h other s is fits =
     stored (withState (set l k x) c) refl refl (at-set l k x (omega (arith, s .state-count))) f (withState l c)
     (sized-state s (set l k x) (length-set l k x ∙ s .state-count)) is (keeps-byte (withState l c) k x other fits)
 
--- A store to any of the numbers but WriteE2's next address, of which the fields' agreement speaks.
-pub set-number : (f : Machine → Machine) (k x : ℕ) (c : Chip) → k < 6 → eqb 1 k ≡ false → Sizes c →
+-- A store to the CRC register or the sum of lost bytes: the fields' agreement does not speak of them.
+pub set-number : (f : Machine → Machine) (k x : ℕ) (c : Chip) → k < 6 → (eqb 1 k || (eqb 4 k || eqb 5 k)) ≡ false → Sizes c →
     viewOf (coreBy (at (c .clocks)) (put k x (at (c .numbers))) (at (c .state))) c ≡ f (view c) → Turned f c (withNumbers (set (c .numbers) k x) c)
 unfolding viewOf fieldsFormed
 set-number f k x c h other s is =
     stored (withNumbers (set (c .numbers) k x) c) refl (at-set (c .numbers) k x (omega (arith, s .number-count))) refl f c
-    (sized-numbers s (set (c .numbers) k x) (length-set (c .numbers) k x ∙ s .number-count)) is
-    (λ formed. ap (λ (t : Bool). fieldsBy (coreBy (at (c .clocks)) (λ j. cond (cond (eqb j 1) t (eqb j k)) x (at (c .numbers) j)) (at (c .state))) (at (c .state))) other ∙ formed)
+    (sized-numbers s (set (c .numbers) k x) (length-set (c .numbers) k x ∙ s .number-count)) is (go (eqb 1 k) (eqb 4 k) (eqb 5 k) other)
+  where
+    go : (a b d : Bool) → (a || (b || d)) ≡ false → fieldsFormed c ≡ true →
+        (stageFormed (core c .stage) (core c .latched) (core c .left) (cond a x (core c .next))
+        && (modesAgree (core c .control) (cond b x (core c .standBy)) (cond d x (core c .powerDown)) && bytesFormed (at (c .state)))) ≡ true
+    go false false false e p = p
+    go false false true e p = absurd (true≢false e)
+    go false true d e p = absurd (true≢false e)
+    go true b d e p = absurd (true≢false e)

@@ -1,10 +1,10 @@
 -- When a chip is well formed (manual 10.3), clause by clause. `machine` judges what a machine shows (its WellFormed.antt); here stands what
 -- only the chip's own fields show. A field that the active command does not use is judged only where a clause names it.
 -- Assumes nothing.
-use Prim.Native.Nat.{ℕ, _+_, _%_}
+use Prim.Native.Nat.{ℕ, _+_, _/_, _%_}
 use mathlib.Core.Bool.{Bool, true, cond, not, _&&_, _||_}
 use lib.Dec.{ltb, leb, eqb}
-use Rattle.bits.specs.Bits.{bit}
+use Rattle.bits.specs.Bits.{bit, bitSet}
 use Rattle.bits.proofs.Below.{all}
 use Rattle.edition.specs.Edition.{isNumber}
 use Rattle.machine.specs.WellFormed.{wellFormed}
@@ -44,27 +44,35 @@ agree a b = cond a b (not b)
 abbrev pub stageFormed : ℕ → ℕ → ℕ → ℕ → Bool
 stageFormed stage latched left next = listed stage && (agree (ltb 0 left) (writes stage && batchFits next latched) && ltb next 0x200)
 
+-- A power mode that has hold has its bit of Control, and only one with hold is being left: its number is 0, or both are there.
+abbrev pub modeAgrees : Bool → ℕ → Bool
+modeAgrees bit number = eqb number 0 || (bit && leb 0x8000 number)
+
+abbrev pub modesAgree : ℕ → ℕ → ℕ → Bool
+modesAgree control standBy powerDown = modeAgrees (bitSet control 5) standBy && modeAgrees (bitSet control 4) powerDown
+
 -- A flag's byte is 0 or 1.
 abbrev pub isFlag : ℕ → Bool
 isFlag x = leb x 1
 
--- What a register never shows as 1 is 0, of the bytes that a machine has as flags, by their index: key loaded, InterruptEn, InterruptRq, ErrorFlag and
--- TRunning. And the edition's byte, 11, is the number of one.
+-- What a register never shows as 1 is 0, of the bytes that a machine has as flags, by their index: Control but for bits 5 and 4, key loaded, InterruptEn,
+-- InterruptRq, ErrorFlag and TRunning. And the edition's byte, 11, is the number of one.
 abbrev pub byteFormed : ℕ → ℕ → Bool
 byteFormed k x =
-    cond (eqb k 2) (isFlag x)
+    cond (eqb k 1) (eqb (x % 16) 0 && eqb (x / 64) 0)
+    (cond (eqb k 2) (isFlag x)
     (cond (eqb k 4) (ltb x 64)
     (cond (eqb k 6) (ltb x 64)
     (cond (eqb k 7) (eqb (bit x 7 + (bit x 2 + bit x 0)) 0)
     (cond (eqb k 8) (isFlag x)
     (cond (eqb k 11) (isNumber x)
-    true)))))
+    true))))))
 
 abbrev pub bytesFormed : (ℕ → ℕ) → Bool
 bytesFormed byte = all (λ k. byteFormed k (byte k)) 12
 
 abbrev pub fieldsBy : Core → (ℕ → ℕ) → Bool
-fieldsBy k byte = stageFormed (k .stage) (k .latched) (k .left) (k .next) && bytesFormed byte
+fieldsBy k byte = stageFormed (k .stage) (k .latched) (k .left) (k .next) && (modesAgree (k .control) (k .standBy) (k .powerDown) && bytesFormed byte)
 
 unfoldable pub fieldsFormed : Chip → Bool
 fieldsFormed c = fieldsBy (core c) (at (c .state))

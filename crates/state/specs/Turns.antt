@@ -1,13 +1,14 @@
 -- What a function on some of the arrays promises, whatever the others are.
 -- Assumes nothing.
 use Prim.Native.Nat.{ℕ, _<_}
-use mathlib.Core.Bool.{true}
+use mathlib.Core.Bool.{Bool, true}
 use mathlib.Core.List.{List}
 use mathlib.Core.Path.{_≡_}
 use lib.ListN.{length}
+use Rattle.bits.specs.Bits.{bitSet}
 use Rattle.machine.specs.State.{Machine}
 use Rattle.state.specs.View.{at, heldCount, view}
-use Rattle.state.specs.Formed.{fieldsFormed}
+use Rattle.state.specs.Formed.{byteFormed, fieldsFormed}
 use Rattle.state.specs.declared.Chip.{Chip}
 
 -- What every chip is by the types of its arrays.
@@ -48,6 +49,10 @@ TurnsAllLosing f lost before after r = Sizes before → Turned f before after ×
 abbrev pub Reads : {A : Type 0} → (Machine → A) → (Chip → Chip) → A → Type 0
 Reads f lent r = (c : Chip) → r ≡ f (view (lent c))
 
+-- The same of a function that reads a chip whose own fields agree.
+abbrev pub ReadsAgreeing : {A : Type 0} → (Machine → A) → (Chip → Chip) → A → Type 0
+ReadsAgreeing f lent r = (c : Chip) → fieldsFormed (lent c) ≡ true → r ≡ f (view (lent c))
+
 -- How many bytes the FIFO holds, from its positions, which are bytes.
 pub record Counts (read write count : ℕ) : Type 0 where
   pub counted : count ≡ heldCount read write
@@ -56,3 +61,9 @@ pub record Counts (read write count : ℕ) : Type 0 where
 
 abbrev pub Holds : List ℕ → ℕ → Type 0
 Holds state count = Counts (at state 13) (at state 14) count
+
+-- A byte of Control has these bits for StandBy and PowerDown, and no others.
+pub record ControlIs (standBy powerDown : Bool) (control : ℕ) : Type 0 where
+  pub stand-by : bitSet control 5 ≡ standBy
+  pub power-down : bitSet control 4 ≡ powerDown
+  pub formed : byteFormed 1 control ≡ true

@@ -3,13 +3,13 @@
 use Prim.Native.Nat.{ℕ, zero, suc, _+_, _-_, _%_}
 use mathlib.Core.Bool.{Bool, cond, not, _&&_, _||_}
 use mathlib.Core.List.{List, [], _∷_}
-use lib.Dec.{eqb}
+use lib.Dec.{ltb, eqb}
 use lib.ListN.{getD, take}
 use Rattle.bits.specs.Bits.{bitSet}
 use Rattle.edition.specs.Edition.{numbered}
 use Rattle.machine.specs.State as m
-use Rattle.machine.specs.State.{Machine, Command, withRequests, withErrors}
-use Rattle.machine.specs.State.{Idle, WriteE2, ReadE2, LoadConfig, LoadKeyE2, LoadKey, CalcCRC, Transmit, Receive, TransceiveSending, TransceiveReceiving, addressing, ready, programming}
+use Rattle.machine.specs.State.{Machine, Command, Mode, withRequests, withErrors}
+use Rattle.machine.specs.State.{Idle, WriteE2, ReadE2, LoadConfig, LoadKeyE2, LoadKey, CalcCRC, Transmit, Receive, TransceiveSending, TransceiveReceiving, addressing, ready, programming, off, waiting, inHold, leaving}
 use Rattle.state.specs.declared.Chip.{Chip}
 
 -- The fields by name.
@@ -19,6 +19,8 @@ pub record Core : Type 0 where
   pub crcRegister : ℕ
   pub next : ℕ
   pub lostSum : ℕ
+  pub standBy : ℕ
+  pub powerDown : ℕ
   pub page : ℕ
   pub control : ℕ
   pub keyLoaded : ℕ
@@ -46,6 +48,8 @@ coreBy clock number byte =
       crcRegister = number 0;
       next = number 1;
       lostSum = number 2;
+      standBy = number 4;
+      powerDown = number 5;
       page = byte 0;
       control = byte 1;
       keyLoaded = byte 2;
@@ -97,6 +101,11 @@ interruptsOf x = record { timer = bitSet x 5; tx = bitSet x 4; rx = bitSet x 3; 
 abbrev pub errorsOf : ℕ → m.Errors
 errorsOf x = record { keyErr = bitSet x 6; accessErr = bitSet x 5; fifoOvfl = bitSet x 4; crcErr = bitSet x 3; parityErr = bitSet x 1 }
 
+-- A power mode, from its bit of Control and its number (manual 13.1): bit 15 is set while the mode has hold, and bits 14-0 are the clocks that its leaving has
+-- to go.
+abbrev pub modeOf : Bool → ℕ → Mode
+modeOf bit number = cond bit (cond (ltb number 0x8000) waiting (cond (eqb number 0x8000) inHold (leaving (number - 0x8000)))) off
+
 -- Where the latched bytes go: they end where the next byte goes, and after 1FFh comes 000h.
 abbrev pub batchStart : ℕ → ℕ → ℕ
 batchStart next latched = (next + 0x200 - latched) % 0x200
@@ -134,7 +143,7 @@ viewOf k c =
             enables = interruptsOf (k .enables);
             requests = interruptsOf (k .requests);
             errors = errorsOf (k .errors);
-            control = k .control;
+            modes = record { standBy = modeOf (bitSet (k .control) 5) (k .standBy); powerDown = modeOf (bitSet (k .control) 4) (k .powerDown) };
             rxLastBits = k .rxLastBits;
           };
       timer = record { running = isSet (k .running); value = k .value; prescaler = k .prescaler; phase = k .phase };

@@ -3,10 +3,13 @@
 // Any memory is some chip, which refusal 7 judges. Names are the data sheet's. specs/View.antt says which machine the arrays are,
 // specs/Formed.antt when a chip is well formed, specs/Turns.antt what a function on some of the arrays promises.
 ghost use mathlib.Core.Path.{_≡_};
-ghost use Rattle.state.specs.View.{withState, raised, marked, unmarked};
+ghost use mathlib.Core.Bool.{_&&_};
+ghost use lib.Dec.{eqb};
+ghost use Rattle.state.specs.View.{withNumbers, withState, raised, marked, unmarked};
 ghost use Rattle.state.specs.Lent.{clocksState};
-ghost use Rattle.state.specs.Turns.{Turns, Reads, Counts, Holds};
-ghost use Rattle.machine.specs.Commands.{ended as Commands·ended};
+ghost use Rattle.state.specs.Turns.{Turns, Reads, ReadsAgreeing, Counts, Holds, ControlIs};
+ghost use Rattle.machine.specs.Commands.{programs as Commands·programs, ended as Commands·ended};
+ghost use Rattle.machine.specs.Power.{standsStill};
 ghost use Rattle.machine.specs.Frames.{receiving, frameWaits};
 ghost use Rattle.machine.specs.Events.{lost as Events·lost};
 ghost use Rattle.state.specs.Meets.{coded};
@@ -29,12 +32,17 @@ pub const PHASE: usize = 0;
 
 pub const LEFT: usize = 1;
 
-// Elements of `numbers`: the CRC register, the address at which WriteE2's next byte goes, and the sum of lost bytes.
+// Elements of `numbers`: the CRC register, the address at which WriteE2's next byte goes, the sum of lost bytes, and the two power modes, of which
+// bit 15 is set while the mode has hold, and bits 14-0 are the clocks that its leaving has to go. The two modes are judged together, as one word.
 pub const CRC_REGISTER: usize = 0;
 
 pub const NEXT: usize = 1;
 
 pub const LOST_SUM: usize = 2;
+
+pub const STAND_BY: usize = 4;
+
+pub const POWER_DOWN: usize = 5;
 
 // Elements of `state`. The first eight have bits that always read 0, which are judged together: Page, Control, whether a key is loaded, RxLastBits,
 // InterruptEn, ChannelRedundancy as the latest CalcCRC read it, InterruptRq and ErrorFlag.
@@ -86,6 +94,49 @@ pub fn held(state: &[u8; 24]) -> u8
     ensures { λ r. ⌜ Holds (now (state .entry)) r ⌝ }
 {
     distance(state[READ], state[WRITE])
+}
+
+// A programming is there, running or standing still: WriteE2 is active, with its address or without, and clocks are left.
+pub fn programs(clocks: &[u32; 2], state: &[u8; 24]) -> bool
+    ensures { λ r.
+        let lent = clocksState (now (clocks .entry)) (now (state .entry)) in
+        ⌜ Reads (λ m. Commands·programs (m .command)) lent r ⌝ }
+{
+    if clocks[LEFT] == 0 {
+        return false;
+    }
+    let stage = state[STAGE];
+    (stage == 0x01) | (stage == 0x41)
+}
+
+// The numbers of the two power modes as one word. That the two are of 16 bits is known of parameters by value, and not of elements that are loaded.
+pub fn modes_word(low: u16, high: u16) -> u32
+    ensures { λ r. ⌜ eqb r 0 ≡ (eqb low 0 && eqb high 0) ⌝ }
+{
+    high as u32 * 0x1_0000 + low as u32
+}
+
+// A power mode has hold: where the fields agree, only such a mode has a number above 0.
+pub fn stands_still(numbers: &[u16; 6]) -> bool
+    ensures { λ r. ⌜ ReadsAgreeing standsStill (withNumbers (now (numbers .entry))) r ⌝ }
+{
+    modes_word(numbers[STAND_BY], numbers[POWER_DOWN]) != 0
+}
+
+// Control, from the bits of StandBy and PowerDown.
+pub fn control_byte(standby: bool, powerdown: bool) -> u8
+    ensures { λ r. ⌜ ControlIs standby powerdown r ⌝ }
+{
+    if standby {
+        if powerdown {
+            return 0x30;
+        }
+        return 0x20;
+    }
+    if powerdown {
+        return 0x10;
+    }
+    0
 }
 
 // A frame waits to be taken: Transmit is active, or a Transceive that sends, and a byte is held.

@@ -3,7 +3,7 @@
 use Prim.Native.Nat.{ℕ, zero, suc, _+_, _*_, _/_, _%_, _^_, _<_, _≤_}
 use native.Mathlib.Omega.{arith}
 use mathlib.Core.Path.{_≡_, refl, sym, ap, _∙_}
-use mathlib.Core.Bool.{Bool, true, false, cond, not, and-false, and-assoc, _&&_, _||_}
+use mathlib.Core.Bool.{Bool, true, false, cond, not, and-false, _&&_, _||_}
 use lib.Bits.{bitAnd, bitOr, and-le-l, and-le-r, or-add-and}
 use lib.Dec.{T, eqb, ltb, leb, leb·zero}
 use borrow.Author.Tests.{le-leb, leb-true, leb-false, eqb-true, eqb-false, eq-eqb, ne-eqb, lt-ltb, le-ltb}
@@ -13,7 +13,7 @@ use Rattle.crc.specs.Checksum.{CRC8}
 use Rattle.machine.specs.WellFormed.{timerFormed, bitsFormed}
 use Rattle.state.specs.View.{isSet}
 use Rattle.state.specs.Formed.{isFlag}
-use Rattle.state_clauses.specs.Clauses.{flagsFormed}
+use Rattle.state_clauses.specs.Clauses.{namedFormed, flagsFormed}
 
 -- Tests that are joined, each by its answer. The second may lean on the first.
 pub joined : {a b s t : Bool} → a ≡ s → b ≡ t → (a && b) ≡ (s && t)
@@ -42,7 +42,7 @@ same-eq false false t = refl
 alike : (f g : ℕ → Bool) → T (all (λ k. same (f k) (g k)) 256) → (k : ℕ) → k < 256 → f k ≡ g k
 alike f g t k h = same-eq (f k) (g k) (each (λ n. same (f n) (g n)) 256 t k h)
 
--- The mask of each byte's bits that always read 0, of a flag's, and of CRC8.
+-- The mask of each byte's bits that always read 0, of a flag's, of a whole byte, and of CRC8.
 interrupt-bits : (x : ℕ) → x < 256 → eqb (bitAnd x 0xC0) 0 ≡ ltb x 64
 interrupt-bits = alike (λ x. eqb (bitAnd x 0xC0) 0) (λ x. ltb x 64) tt
 
@@ -58,15 +58,23 @@ page-bits = alike (λ x. eqb (bitAnd x 0x78) 0) (λ x. eqb (x / 8 % 16) 0) tt
 control-bits : (x : ℕ) → x < 256 → eqb (bitAnd x 0xCF) 0 ≡ (eqb (x % 16) 0 && eqb (x / 64) 0)
 control-bits = alike (λ x. eqb (bitAnd x 0xCF) 0) (λ x. eqb (x % 16) 0 && eqb (x / 64) 0) tt
 
+pub whole-byte : (x : ℕ) → x < 256 → eqb (bitAnd x 0xFF) 0 ≡ eqb x 0
+whole-byte = alike (λ x. eqb (bitAnd x 0xFF) 0) (λ x. eqb x 0) tt
+
 last-bits : (x : ℕ) → x < 256 → eqb (bitAnd x 0xF8) 0 ≡ ltb x 8
 last-bits = alike (λ x. eqb (bitAnd x 0xF8) 0) (λ x. ltb x 8) tt
 
 pub mode-bit : (x : ℕ) → x < 256 → eqb (bitAnd x 0x10) 0 ≡ not (CRC8 x)
 mode-bit = alike (λ x. eqb (bitAnd x 0x10) 0) (λ x. not (CRC8 x)) tt
 
+-- Page and RxLastBits, with a test of Control as some mask makes it.
+pub named-judged : (page masked last : ℕ) (t : Bool) → page < 256 → last < 256 → eqb masked 0 ≡ t →
+    (eqb (bitAnd page 0x78) 0 && (eqb masked 0 && eqb (bitAnd last 0xF8) 0)) ≡ (t && bitsFormed page last)
+named-judged page masked last t p l judged = joined (page-bits page p) (joined judged (last-bits last l)) ∙ and-left-comm (eqb (page / 8 % 16) 0) t (ltb last 8)
+
 pub bits-judged : (page control last : ℕ) → page < 256 → control < 256 → last < 256 →
-    (eqb (bitAnd page 0x78) 0 && (eqb (bitAnd control 0xCF) 0 && eqb (bitAnd last 0xF8) 0)) ≡ bitsFormed page control last
-bits-judged page control last p c l = simp (page-bits page p, control-bits control c, last-bits last l, and-assoc)
+    (eqb (bitAnd page 0x78) 0 && (eqb (bitAnd control 0xCF) 0 && eqb (bitAnd last 0xF8) 0)) ≡ namedFormed page control last
+bits-judged page control last p c l = named-judged page (bitAnd control 0xCF) last _ p l (control-bits control c)
 
 pub flags-judged : (loaded enables requests errors : ℕ) → loaded < 256 → enables < 256 → requests < 256 → errors < 256 →
     (eqb (bitAnd errors 0x85) 0 && (eqb (bitAnd requests 0xC0) 0 && (eqb (bitAnd enables 0xC0) 0 && eqb (bitAnd loaded 0xFE) 0))) ≡ flagsFormed loaded enables requests errors

@@ -1,16 +1,32 @@
 -- The clauses of refusal 7 as tests of numbers by value.
 -- Assumes nothing.
 use Prim.Native.Nat.{ℕ}
-use mathlib.Core.Bool.{Bool, cond, _&&_}
+use mathlib.Core.Bool.{Bool, cond, not, _&&_}
 use mathlib.Core.List.{List}
 use lib.Dec.{ltb, leb, eqb}
+use Rattle.bits.specs.Bits.{bitSet}
 use Rattle.edition.specs.Edition.{isOf, isNumber, numbered}
 use Rattle.machine.specs.Memory.{programmingClocks}
-use Rattle.machine.specs.WellFormed.{timerFormed}
-use Rattle.state.specs.View.{isSet}
-use Rattle.state.specs.Formed.{writes, batchFits, agree, isFlag, byteFormed}
+use Rattle.machine.specs.Power.{standByClocks, powerDownClocks}
+use Rattle.machine.specs.WellFormed.{timerFormed, modeFormed, bitsFormed}
+use Rattle.state.specs.View.{isSet, modeOf}
+use Rattle.state.specs.Formed.{writes, batchFits, agree, modeAgrees, isFlag, byteFormed}
 
--- The bytes of flags, but for TRunning: ErrorFlag, InterruptRq, InterruptEn, and whether a key is loaded.
+-- Page, Control and RxLastBits have 0 where they always read 0.
+abbrev pub namedFormed : ℕ → ℕ → ℕ → Bool
+namedFormed page control rxLastBits = byteFormed 1 control && bitsFormed page rxLastBits
+
+-- A power mode by its bit of Control and its number: the two agree, and the mode is formed.
+abbrev pub modeFieldsFormed : Bool → ℕ → ℕ → Bool → Bool
+modeFieldsFormed bit number whole programs = modeAgrees bit number && modeFormed whole programs (modeOf bit number)
+
+-- Both modes. A programming is there exactly where clocks are left: the clauses on these are `programmingFormed`.
+abbrev pub modesFieldsFormed : ℕ → ℕ → ℕ → ℕ → Bool
+modesFieldsFormed control standBy powerDown left =
+    modeFieldsFormed (bitSet control 5) standBy standByClocks (not (eqb left 0))
+    && modeFieldsFormed (bitSet control 4) powerDown powerDownClocks (not (eqb left 0))
+
+-- The bytes of flags, but for Control and TRunning: ErrorFlag, InterruptRq, InterruptEn, and whether a key is loaded.
 abbrev pub flagsFormed : ℕ → ℕ → ℕ → ℕ → Bool
 flagsFormed loaded enables requests errors = byteFormed 7 errors && (byteFormed 6 requests && (byteFormed 4 enables && byteFormed 2 loaded))
 

@@ -5,10 +5,11 @@
 ghost use Prim.Native.Nat.{_+_, _*_, _^_};
 ghost use mathlib.Core.Path.{_≡_};
 ghost use mathlib.Core.List.{[], _∷_};
-ghost use Rattle.machine.specs.WellFormed.{checksumFormed, bitsFormed};
-ghost use Rattle.state_clauses.specs.Clauses.{flagsFormed, timerFieldsFormed, programmingFormed, roomOf, editionFieldsFormed};
+ghost use Rattle.machine.specs.WellFormed.{checksumFormed};
+ghost use Rattle.state_clauses.specs.Clauses.{namedFormed, flagsFormed, timerFieldsFormed, programmingFormed, modeFieldsFormed, modesFieldsFormed, roomOf, editionFieldsFormed};
 use edition::MFRC531;
 use edition::RC530;
+use state::modes_word;
 use state_timer::period;
 
 // Two numbers as one of twice the width.
@@ -33,7 +34,7 @@ pub fn flags_formed(loaded: u8, enables: u8, requests: u8, errors: u8) -> bool
 
 // Page, Control and RxLastBits, likewise.
 pub fn bits_formed(page: u8, control: u8, last: u8) -> bool
-    ensures { λ r. ⌜ r ≡ bitsFormed page control last ⌝ }
+    ensures { λ r. ⌜ r ≡ namedFormed page control last ⌝ }
 {
     (page & 0x78 == 0) & ((control & 0xCF == 0) & (last & 0xF8 == 0))
 }
@@ -55,6 +56,28 @@ pub fn writing_formed(stage: u8, latched: u8, left: u32, next: u16) -> bool
     let fits = (1 <= count) & ((count <= 16) & ((start % 16 + count <= 16) & (0x10 <= start)));
     let writes = (stage == 0x01) | (stage == 0x41);
     (left <= 78_648) & (((0 < left) == (writes & fits)) & (next < 0x200))
+}
+
+// A power mode, by its bit of Control and its number, of which bit 15 is its hold and bits 14-0 are the clocks that its leaving has to go, at most a whole number
+// of them. The number is 0, or the bit is set and the mode has hold; the bit is set without hold only where a programming is there.
+fn mode_formed(bit: bool, number: u16, whole: u16, programs: bool) -> bool
+    ensures { λ r. ⌜ r ≡ modeFieldsFormed bit number whole programs ⌝ }
+{
+    let holds = number >= 0x8000;
+    ((number == 0) | (bit & holds)) & ((number % 0x8000 <= whole) & (!bit | (holds | programs)))
+}
+
+// Both power modes, with the programming clocks left; two that are off first.
+pub fn modes_formed(control: u8, standby: u16, powerdown: u16, left: u32) -> bool
+    ensures { λ r. ⌜ r ≡ modesFieldsFormed control standby powerdown left ⌝ }
+{
+    if (control / 16 % 4 == 0) & (modes_word(standby, powerdown) == 0) {
+        return true;
+    }
+    let programs = left != 0;
+    let first = mode_formed(control / 32 % 2 == 1, standby, 4, programs);
+    let second = mode_formed(control / 16 % 2 == 1, powerdown, 512, programs);
+    first & second
 }
 
 // One more than the most bytes that may wait; 0 where the stage is none. While WriteE2 programs, 64 may.

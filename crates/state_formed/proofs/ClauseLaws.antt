@@ -9,21 +9,24 @@ use lib.Dec.{ltb, leb, eqb}
 use lib.ListN.{length, take}
 use lib.Seq.{length-take-le}
 use borrow.Author.Tests.{lt-ltb, le-ltb, leb-true, eqb-true, eqb-false, le-leb, not-true}
+use Rattle.bits.specs.Bits.{bitSet}
 use Rattle.crc.specs.Checksum.{CRC8}
 use Rattle.edition.specs.Edition.{isOf, isNumber}
-use Rattle.machine.specs.State.{Writing, addressing, ready, programming}
+use Rattle.machine.specs.State.{Writing, Modes, addressing, ready, programming}
 use Rattle.machine.specs.Memory.{programmingClocks}
-use Rattle.machine.specs.WellFormed.{wellFormed, timerFormed, writingFormed, commandFormed, checksumFormed, bitsFormed, waits}
+use Rattle.machine.specs.Commands.{programs}
+use Rattle.machine.specs.Power.{standByClocks, powerDownClocks}
+use Rattle.machine.specs.WellFormed.{wellFormed, timerFormed, writingFormed, commandFormed, checksumFormed, modeFormed, modesFormed, bitsFormed, waits}
 use Rattle.machine.proofs.Cases.{by-cond}
 use Rattle.machine.proofs.WellFormed.Parts.{both, each}
-use Rattle.state.specs.View.{Core, core, view, viewOf, writingOf, commandOf, batchStart, heldOf, heldCount}
-use Rattle.state.specs.Formed.{listed, writes, batchFits, agree, isFlag, byteFormed, fieldsFormed, chipFormed}
+use Rattle.state.specs.View.{Core, core, view, viewOf, modeOf, writingOf, commandOf, batchStart, heldOf, heldCount}
+use Rattle.state.specs.Formed.{listed, writes, batchFits, agree, modeAgrees, modesAgree, isFlag, byteFormed, fieldsFormed, chipFormed}
 use Rattle.state.specs.Turns.{Sizes}
 use Rattle.state.specs.declared.Chip.{Chip}
 use Rattle.state.proofs.RingLaws.{held-length}
-use Rattle.state.proofs.StageLaws.{Other, by-stage}
-use Rattle.state_clauses.specs.Clauses.{flagsFormed, timerFieldsFormed, programmingFormed, stageRoom, roomOf, editionFieldsFormed}
-use Rattle.state_clauses.proofs.ByteLaws.{joined-if, and-left-comm, below, waiting}
+use Rattle.state.proofs.StageLaws.{Other, by-stage, stage-programs}
+use Rattle.state_clauses.specs.Clauses.{namedFormed, flagsFormed, timerFieldsFormed, programmingFormed, modesFieldsFormed, stageRoom, roomOf, editionFieldsFormed}
+use Rattle.state_clauses.proofs.ByteLaws.{joined, joined-if, and-left-comm, below, waiting}
 use Rattle.state_formed.specs.Judged.{firstClear, restsWith, usual}
 
 -- Where the two tests agree: clocks are left only where some are due, and none where none are.
@@ -102,29 +105,54 @@ module _ (k : Core) (latch : List ℕ) where
         by-cond (λ (r : ℕ). ltb n r ≡ (listed (k .stage) && (leb n 64 && leb n (waits (commandOf k latch))))) (eqb (k .left) 0) (stageRoom (k .stage)) 65
         rests-with (λ some. programs-with some (each (writes (k .stage)) _ (some-due (k .left) _ agrees some) .0))
 
--- All clauses in the code's order.
-reordered : (i l w f11 f8 f7 f6 f4 f2 q t m p k z : Bool) →
-    (((l && w) && (f11 && (f8 && (f7 && (f6 && (f4 && (f2 && true))))))) && (i && (q && (t && (m && (p && (k && z)))))))
-    ≡ ((f7 && (f6 && (f4 && f2))) && (z && ((f8 && t) && (k && (((w && m) && (l && (q && p))) && (f11 && i))))))
-reordered i l w f11 f8 f7 f6 f4 f2 q t m p k z = simp (and-true, and-assoc, and-comm, and-left-comm)
+  -- Where the two tests agree, a programming is there exactly where clocks are left; so the power modes are judged.
+  module _ (agrees : agree (ltb 0 (k .left)) (writes (k .stage) && batchFits (k .next) (k .latched)) ≡ true) where
+    programs-left : programs (commandOf k latch) ≡ not (eqb (k .left) 0)
+    programs-left = stage-programs k latch ∙ go (eqb (k .left) 0) refl
+      where
+        go : (t : Bool) → eqb (k .left) 0 ≡ t → (not t && writes (k .stage)) ≡ not t
+        go true e = refl
+        go false e = each (writes (k .stage)) _ (some-due (k .left) _ agrees e) .0
 
-in-order : (i l w f11 f8 f7 f6 f4 f2 q t m p k z : Bool) (a b : Bool) → ((w && m) && (l && (q && p))) ≡ (a && b) →
-    (((l && w) && (f11 && (f8 && (f7 && (f6 && (f4 && (f2 && true))))))) && (i && (q && (t && (m && (p && (k && z)))))))
-    ≡ ((f7 && (f6 && (f4 && f2))) && (z && ((f8 && t) && (k && (a && (b && (f11 && i)))))))
-in-order i l w f11 f8 f7 f6 f4 f2 q t m p k z a b e =
-    reordered i l w f11 f8 f7 f6 f4 f2 q t m p k z
-    ∙ ap (λ (x : Bool). (f7 && (f6 && (f4 && f2))) && (z && ((f8 && t) && (k && x)))) (ap (λ (x : Bool). x && (f11 && i)) e ∙ and-assoc a b (f11 && i))
+    abbrev modes : Modes
+    modes = record { standBy = modeOf (bitSet (k .control) 5) (k .standBy); powerDown = modeOf (bitSet (k .control) 4) (k .powerDown) }
+
+    modes-judged : (modesAgree (k .control) (k .standBy) (k .powerDown) && modesFormed (programs (commandOf k latch)) modes)
+        ≡ modesFieldsFormed (k .control) (k .standBy) (k .powerDown) (k .left)
+    modes-judged =
+        let there = not (eqb (k .left) 0) in
+        ap (λ (t : Bool). modesAgree (k .control) (k .standBy) (k .powerDown) && modesFormed t modes) programs-left
+        ∙ by-mode (modeAgrees (bitSet (k .control) 5) (k .standBy)) (modeAgrees (bitSet (k .control) 4) (k .powerDown))
+        (modeFormed standByClocks there (modes .standBy)) (modeFormed powerDownClocks there (modes .powerDown))
+      where
+        by-mode : (a b f g : Bool) → ((a && b) && (f && g)) ≡ ((a && f) && (b && g))
+        by-mode a b f g = simp (and-assoc, and-left-comm)
+
+-- All clauses in the code's order.
+reordered : (i l w g f11 f8 f7 f6 f4 f2 f1 q t m p k o z : Bool) →
+    (((l && w) && (g && (f11 && (f8 && (f7 && (f6 && (f4 && (f2 && (f1 && true))))))))) && (i && (q && (t && (m && (p && (k && (o && z))))))))
+    ≡ ((f7 && (f6 && (f4 && f2))) && ((f1 && z) && ((f8 && t) && (k && (((w && m) && ((l && (q && p)) && (g && o))) && (f11 && i))))))
+reordered i l w g f11 f8 f7 f6 f4 f2 f1 q t m p k o z = simp (and-true, and-assoc, and-comm, and-left-comm)
+
+in-order : (i l w g f11 f8 f7 f6 f4 f2 f1 q t m p k o z : Bool) (a b d : Bool) → ((w && m) && ((l && (q && p)) && (g && o))) ≡ (a && (b && d)) →
+    (((l && w) && (g && (f11 && (f8 && (f7 && (f6 && (f4 && (f2 && (f1 && true))))))))) && (i && (q && (t && (m && (p && (k && (o && z))))))))
+    ≡ ((f7 && (f6 && (f4 && f2))) && ((f1 && z) && ((f8 && t) && (k && (a && (b && (d && (f11 && i))))))))
+in-order i l w g f11 f8 f7 f6 f4 f2 f1 q t m p k o z a b d e =
+    reordered i l w g f11 f8 f7 f6 f4 f2 f1 q t m p k o z
+    ∙ ap (λ (x : Bool). (f7 && (f6 && (f4 && f2))) && ((f1 && z) && ((f8 && t) && (k && x))))
+    (ap (λ (x : Bool). x && (f11 && i)) e ∙ and-assoc a (b && d) (f11 && i) ∙ ap (λ (x : Bool). a && x) (and-assoc b d (f11 && i)))
 
 pub clauses : (c : Chip) → length (c .latch) ≡ 16 →
     let k = core c in
     chipFormed c
     ≡ (flagsFormed (k .keyLoaded) (k .enables) (k .requests) (k .errors)
-    && (bitsFormed (k .page) (k .control) (k .rxLastBits)
+    && (namedFormed (k .page) (k .control) (k .rxLastBits)
     && (timerFieldsFormed (k .running) (k .value) (k .prescaler) (k .phase)
     && (checksumFormed (record { register = k .crcRegister; mode = k .crcMode })
     && (programmingFormed (k .stage) (k .latched) (k .left) (k .next)
     && (ltb (heldCount (k .read) (k .write)) (roomOf (k .stage) (k .left))
-    && editionFieldsFormed (k .edition) (c .eeprom)))))))
+    && (modesFieldsFormed (k .control) (k .standBy) (k .powerDown) (k .left)
+    && editionFieldsFormed (k .edition) (c .eeprom))))))))
 unfolding chipFormed fieldsFormed wellFormed viewOf
 clauses c sixteen =
     let k = core c in
@@ -132,14 +160,19 @@ clauses c sixteen =
     let n = length (heldOf (k .read) (k .write) (c .slots)) in
     let clocked = agree (ltb 0 (k .left)) (writes (k .stage) && batchFits (k .next) (k .latched)) in
     let near = ltb (k .next) 0x200 in
-    in-order (isOf (m .edition) (m .eeprom)) (listed (k .stage)) (clocked && near) (isNumber (k .edition)) (isFlag (k .running)) (byteFormed 7 (k .errors)) (byteFormed 6 (k .requests)) (byteFormed 4 (k .enables)) (byteFormed 2 (k .keyLoaded))
-    (leb n 64) (timerFormed (m .timer)) (commandFormed (m .command)) (leb n (waits (m .command))) (checksumFormed (m .checksum)) (bitsFormed (k .page) (k .control) (k .rxLastBits))
-    (programmingFormed (k .stage) (k .latched) (k .left) (k .next)) (ltb (heldCount (k .read) (k .write)) (roomOf (k .stage) (k .left)))
+    in-order (isOf (m .edition) (m .eeprom)) (listed (k .stage)) (clocked && near) (modesAgree (k .control) (k .standBy) (k .powerDown))
+    (isNumber (k .edition)) (isFlag (k .running)) (byteFormed 7 (k .errors)) (byteFormed 6 (k .requests)) (byteFormed 4 (k .enables)) (byteFormed 2 (k .keyLoaded)) (byteFormed 1 (k .control))
+    (leb n 64) (timerFormed (m .timer)) (commandFormed (m .command)) (leb n (waits (m .command))) (checksumFormed (m .checksum))
+    (modesFormed (programs (m .command)) (m .status .modes)) (bitsFormed (k .page) (k .rxLastBits))
+    (programmingFormed (k .stage) (k .latched) (k .left) (k .next)) (ltb (heldCount (k .read) (k .write)) (roomOf (k .stage) (k .left))) (modesFieldsFormed (k .control) (k .standBy) (k .powerDown) (k .left))
     (joined-if _ (programmingFormed (k .stage) (k .latched) (k .left) (k .next)) _
     (joined-if (commandFormed (m .command)) (clocked && near) (leb (k .left) programmingClocks) refl (λ h. command-judged k (c .latch) sixteen (each clocked near h .0))
     ∙ and-comm (clocked && near) (leb (k .left) programmingClocks))
-    (λ h. sym (rooms k (c .latch) n (each clocked near (each (leb (k .left) programmingClocks) _ h .1) .0))
-    ∙ ap (λ (j : ℕ). ltb j (roomOf (k .stage) (k .left))) (held-length (c .slots) (k .read) (heldCount (k .read) (k .write)))))
+    (λ h.
+    let agrees = each clocked near (each (leb (k .left) programmingClocks) _ h .1) .0 in
+    joined
+    (sym (rooms k (c .latch) n agrees) ∙ ap (λ (j : ℕ). ltb j (roomOf (k .stage) (k .left))) (held-length (c .slots) (k .read) (heldCount (k .read) (k .write))))
+    (modes-judged k (c .latch) agrees)))
 
 -- Idle or CalcCRC programs nothing, and holds no more bytes than may wait.
 stage-rests : (stage n : ℕ) → restsWith stage n ≡ true → (writes stage ≡ false) × (ltb n (stageRoom stage) ≡ true)
@@ -160,20 +193,27 @@ usual-formed c sizes is typed =
     let k = core c in
     let n = heldCount (k .read) (k .write) in
     let first = firstClear (k .page) (k .control) (k .keyLoaded) (k .rxLastBits) (k .enables) (k .crcMode) (k .requests) (k .errors) in
-    let (calm, h₁) = each (first && eqb (k .left) 0) _ is in
-    let (clear, unclocked) = each first _ calm in
-    let (bits, h₂) = each (bitsFormed (k .page) (k .control) (k .rxLastBits)) _ clear in
+    let (calm, h₁) = each (first && (eqb (k .left) 0 && (eqb (k .standBy) 0 && eqb (k .powerDown) 0))) _ is in
+    let (clear, numbers) = each first _ calm in
+    let (unclocked, off) = each (eqb (k .left) 0) _ numbers in
+    let (no-stand-by, no-power-down) = each (eqb (k .standBy) 0) _ off in
+    let (named, h₂) = each (eqb (k .control) 0 && bitsFormed (k .page) (k .rxLastBits)) _ clear in
+    let (no-control, bits) = each (eqb (k .control) 0) _ named in
     let (flags, narrow) = each (flagsFormed (k .keyLoaded) (k .enables) (k .requests) (k .errors)) _ h₂ in
     let (near, h₃) = each (ltb (k .next) 0x200) _ h₁ in
     let (rests, timer) = each (restsWith (k .stage) n) _ h₃ in
     let (other, room) = stage-rests (k .stage) n rests in
     let none = eqb-true (k .left) 0 unclocked in
+    let control = eqb-true (k .control) 0 no-control in
+    let standBy = eqb-true (k .standBy) 0 no-stand-by in
+    let powerDown = eqb-true (k .powerDown) 0 no-power-down in
     clauses c (sizes .latch-count)
     ∙ both flags
-    (both bits
+    (both (both (ap (byteFormed 1) control) bits)
     (both timer
     (both (ap (λ (b : Bool). cond b (ltb (k .crcRegister) 0x100) true) (not-true (CRC8 (k .crcMode)) narrow))
     (both
     (ap (λ (j : ℕ). leb j programmingClocks && (agree (ltb 0 j) (writes (k .stage) && batchFits (k .next) (k .latched)) && ltb (k .next) 0x200)) none
     ∙ both (ap (λ (b : Bool). not (b && batchFits (k .next) (k .latched))) other) near)
-    (both (ap (λ (j : ℕ). ltb n (roomOf (k .stage) j)) none ∙ room) typed)))))
+    (both (ap (λ (j : ℕ). ltb n (roomOf (k .stage) j)) none ∙ room)
+    (both (λ i. modesFieldsFormed (control i) (standBy i) (powerDown i) (none i)) typed))))))

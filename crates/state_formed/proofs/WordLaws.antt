@@ -8,7 +8,7 @@ use mathlib.Core.Bool.{Bool, and-assoc, and-comm, _&&_}
 use lib.Bits.{bitAnd, and-block}
 use lib.Dec.{eqb}
 use Rattle.state_formed.specs.Judged.{firstClear}
-use Rattle.state_clauses.proofs.ByteLaws.{joined, and-left-comm, none-of, bits-judged, flags-judged, mode-bit}
+use Rattle.state_clauses.proofs.ByteLaws.{joined, and-left-comm, none-of, whole-byte, named-judged, flags-judged, mode-bit}
 
 -- Two parts that are side by side.
 split : (k a b r s : ℕ) → r < 2 ^ k → s < 2 ^ k → eqb (bitAnd (a * 2 ^ k + r) (b * 2 ^ k + s)) 0 ≡ (eqb (bitAnd a b) 0 && eqb (bitAnd r s) 0)
@@ -24,15 +24,15 @@ by-field h g f e d c b a = simp (and-assoc, and-comm, and-left-comm)
 -- The first eight bytes of state.
 module _ (a b c d e f g h : ℕ) (ha : a < 256) (hb : b < 256) (hc : c < 256) (hd : d < 256) (he : e < 256) (hf : f < 256) (hg : g < 256) (hh : h < 256) where
   pub word-clear : (w : ℕ) → w ≡ ((h * 2 ^ 8 + g) * 2 ^ 16 + (f * 2 ^ 8 + e)) * 2 ^ 32 + ((d * 2 ^ 8 + c) * 2 ^ 16 + (b * 2 ^ 8 + a)) →
-      eqb (bitAnd w 0x85C0_10C0_F8FE_CF78) 0 ≡ firstClear a b c d e f g h
+      eqb (bitAnd w 0x85C0_10C0_F8FE_FF78) 0 ≡ firstClear a b c d e f g h
   word-clear w is =
-      ap (λ (n : ℕ). eqb (bitAnd n 0x85C0_10C0_F8FE_CF78) 0) is
-      ∙ split 32 ((h * 2 ^ 8 + g) * 2 ^ 16 + (f * 2 ^ 8 + e)) 0x85C0_10C0 ((d * 2 ^ 8 + c) * 2 ^ 16 + (b * 2 ^ 8 + a)) 0xF8FE_CF78 (omega arith) (omega arith)
+      ap (λ (n : ℕ). eqb (bitAnd n 0x85C0_10C0_F8FE_FF78) 0) is
+      ∙ split 32 ((h * 2 ^ 8 + g) * 2 ^ 16 + (f * 2 ^ 8 + e)) 0x85C0_10C0 ((d * 2 ^ 8 + c) * 2 ^ 16 + (b * 2 ^ 8 + a)) 0xF8FE_FF78 (omega arith) (omega arith)
       ∙ joined
       (split 16 (h * 2 ^ 8 + g) 0x85C0 (f * 2 ^ 8 + e) 0x10C0 (omega arith) (omega arith)
       ∙ joined (split 8 h 0x85 g 0xC0 (omega arith) (omega arith)) (split 8 f 0x10 e 0xC0 (omega arith) (omega arith)))
-      (split 16 (d * 2 ^ 8 + c) 0xF8FE (b * 2 ^ 8 + a) 0xCF78 (omega arith) (omega arith)
-      ∙ joined (split 8 d 0xF8 c 0xFE (omega arith) (omega arith)) (split 8 b 0xCF a 0x78 (omega arith) (omega arith)))
+      (split 16 (d * 2 ^ 8 + c) 0xF8FE (b * 2 ^ 8 + a) 0xFF78 (omega arith) (omega arith)
+      ∙ joined (split 8 d 0xF8 c 0xFE (omega arith) (omega arith)) (split 8 b 0xFF a 0x78 (omega arith) (omega arith)))
       ∙ by-field (eqb (bitAnd h 0x85) 0) (eqb (bitAnd g 0xC0) 0) (eqb (bitAnd f 0x10) 0) (eqb (bitAnd e 0xC0) 0)
-      (eqb (bitAnd d 0xF8) 0) (eqb (bitAnd c 0xFE) 0) (eqb (bitAnd b 0xCF) 0) (eqb (bitAnd a 0x78) 0)
-      ∙ joined (bits-judged a b d ha hb hd) (joined (flags-judged c e g h hc he hg hh) (mode-bit f hf))
+      (eqb (bitAnd d 0xF8) 0) (eqb (bitAnd c 0xFE) 0) (eqb (bitAnd b 0xFF) 0) (eqb (bitAnd a 0x78) 0)
+      ∙ joined (named-judged a (bitAnd b 0xFF) d _ ha hd (whole-byte b hb)) (joined (flags-judged c e g h hc he hg hh) (mode-bit f hf))

@@ -21,19 +21,20 @@ ReadsFields f lent r = (c : Chip) → r ≡ f (core (lent c))
 abbrev pub Judges : (Chip → Chip) → Bool → Type 0
 Judges lent r = (c : Chip) → Sizes (lent c) → r ≡ chipFormed (lent c)
 
--- The first eight bytes of state have 0 where they always read 0, and CRC8 is 0.
+-- The first eight bytes of state have 0 where they always read 0, Control is 0, and CRC8 is 0.
 abbrev pub firstClear : ℕ → ℕ → ℕ → ℕ → ℕ → ℕ → ℕ → ℕ → Bool
 firstClear page control loaded last enables mode requests errors =
-    bitsFormed page control last && (flagsFormed loaded enables requests errors && not (CRC8 mode))
+    (eqb control 0 && bitsFormed page last) && (flagsFormed loaded enables requests errors && not (CRC8 mode))
 
 -- Idle with at most 64 bytes held, or CalcCRC with none.
 abbrev pub restsWith : ℕ → ℕ → Bool
 restsWith stage count = cond (eqb stage 0x00) (leb count 64) (eqb stage 0x12 && eqb count 0)
 
--- The states that a host meets most of the time, but for the edition: every bit of the first eight bytes that always reads 0 is 0 and CRC8 is 0, no programming
--- clocks are left, the next address is below 200h, Idle holds at most 64 bytes or CalcCRC none, and the timer is formed.
+-- The states that a host meets most of the time, but for the edition: every bit of the first eight bytes that always reads 0 is 0, Control is 0 and CRC8 is 0, no
+-- programming clocks are left, no power mode has a number, the next address is below 200h, Idle holds at most 64 bytes or CalcCRC none, and the timer is formed.
 abbrev pub usual : Core → Bool
 usual k =
-    (firstClear (k .page) (k .control) (k .keyLoaded) (k .rxLastBits) (k .enables) (k .crcMode) (k .requests) (k .errors) && eqb (k .left) 0)
+    (firstClear (k .page) (k .control) (k .keyLoaded) (k .rxLastBits) (k .enables) (k .crcMode) (k .requests) (k .errors)
+    && (eqb (k .left) 0 && (eqb (k .standBy) 0 && eqb (k .powerDown) 0)))
     && (ltb (k .next) 0x200
     && (restsWith (k .stage) (heldCount (k .read) (k .write)) && timerFieldsFormed (k .running) (k .value) (k .prescaler) (k .phase)))

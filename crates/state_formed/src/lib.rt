@@ -26,17 +26,21 @@ use state::LEFT;
 use state::NEXT;
 use state::PAGE;
 use state::PHASE;
+use state::POWER_DOWN;
 use state::PRESCALER;
 use state::REQUESTS;
 use state::RUNNING;
 use state::RX_LAST_BITS;
 use state::STAGE;
+use state::STAND_BY;
 use state::VALUE;
 use state::held;
+use state::modes_word;
 use state_clauses::bits_formed;
 use state_clauses::checksum_formed;
 use state_clauses::edition_formed;
 use state_clauses::flags_formed;
+use state_clauses::modes_formed;
 use state_clauses::pair;
 use state_clauses::quad;
 use state_clauses::room;
@@ -50,18 +54,18 @@ fn eight(high: u32, low: u32) -> u64
     high as u64 * 0x1_0000_0000 + low as u64
 }
 
-// Of the first eight bytes of state, as one word, the bits that always read 0, and CRC8.
+// Of the first eight bytes of state, as one word, the bits that always read 0, those of the power modes in Control, and CRC8.
 fn word(a: u8, b: u8, c: u8, d: u8, e: u8, f: u8, g: u8, h: u8) -> u64
     ensures { λ r. ⌜ eqb r 0 ≡ firstClear a b c d e f g h ⌝ }
 {
-    eight(quad(pair(h, g), pair(f, e)), quad(pair(d, c), pair(b, a))) & 0x85C0_10C0_F8FE_CF78
+    eight(quad(pair(h, g), pair(f, e)), quad(pair(d, c), pair(b, a))) & 0x85C0_10C0_F8FE_FF78
 }
 
-// 0 where neither such a bit is set nor programming clocks are left.
-fn both(word: u64, left: u32) -> u64
-    ensures { λ r. ⌜ eqb r 0 ≡ (eqb word 0 && eqb left 0) ⌝ }
+// 0 where neither such a bit is set nor programming clocks are left nor a power mode has a number.
+fn none(word: u64, left: u32, modes: u32) -> u64
+    ensures { λ r. ⌜ eqb r 0 ≡ (eqb word 0 && (eqb left 0 && eqb modes 0)) ⌝ }
 {
-    word | left as u64
+    word | (left | modes) as u64
 }
 
 // Idle or CalcCRC, with no more bytes than may wait.
@@ -93,8 +97,8 @@ pub fn of_own_edition(state: &[u8; 24], eeprom: &[u8; 512]) -> bool
     edition_formed(state[EDITION], eeprom[0], eeprom[1], eeprom[2], eeprom[3])
 }
 
-// The states that a host meets most of the time, but for the edition: Idle or CalcCRC rests, nothing is programmed, every bit that always reads 0 is 0, and CRC8
-// is 0.
+// The states that a host meets most of the time, but for the edition: Idle or CalcCRC rests, nothing is programmed, both power modes are off, every bit that
+// always reads 0 is 0, and CRC8 is 0.
 pub fn quick(clocks: &[u32; 2], numbers: &[u16; 6], state: &[u8; 24]) -> bool
     ensures { λ r.
         let lent = clocksNumbersState (now (clocks .entry)) (now (numbers .entry)) (now (state .entry)) in
@@ -110,7 +114,8 @@ pub fn quick(clocks: &[u32; 2], numbers: &[u16; 6], state: &[u8; 24]) -> bool
         state[REQUESTS],
         state[ERRORS],
     );
-    if both(bits, clocks[LEFT]) != 0 {
+    let modes = modes_word(numbers[STAND_BY], numbers[POWER_DOWN]);
+    if none(bits, clocks[LEFT], modes) != 0 {
         return false;
     }
     if numbers[NEXT] >= 0x200 {
@@ -149,6 +154,12 @@ pub fn formed(clocks: &[u32; 2], numbers: &[u16; 6], state: &[u8; 24], eeprom: &
     let checksum = checksum_formed(numbers[CRC_REGISTER], state[CRC_MODE]);
     let writing = writing_formed(state[STAGE], state[LATCHED], clocks[LEFT], numbers[NEXT]);
     let fits = held(state) < room(state[STAGE], clocks[LEFT]);
+    let modes = modes_formed(
+        state[CONTROL],
+        numbers[STAND_BY],
+        numbers[POWER_DOWN],
+        clocks[LEFT],
+    );
     let edition = of_own_edition(state, eeprom);
-    flags & (bits & (timer & (checksum & (writing & (fits & edition)))))
+    flags & (bits & (timer & (checksum & (writing & (fits & (modes & edition))))))
 }

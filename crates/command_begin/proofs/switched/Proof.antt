@@ -12,7 +12,7 @@ use Rattle.machine.proofs.WellFormed.Parts.{both, each}
 use Rattle.state.specs.View.{view, viewOf}
 use Rattle.state.specs.Formed.{listed, writes}
 use Rattle.state.specs.Lent.{clocksState}
-use Rattle.state.proofs.StoreLaws.{at-set, at-set-two, stored, next-near, bytes-agree}
+use Rattle.state.proofs.StoreLaws.{at-set, at-set-two, stored, next-near, others-agree}
 use Rattle.state.proofs.TurnLaws.{sized-clocks, sized-state}
 use Rattle.command_begin.specs.Begins.{begun}
 use Rattle.command_begin.proofs.switched.Statement.{statement}
@@ -41,7 +41,7 @@ returns c begin chip sizes =
     (withCommand (begun (a .stage))) old
     (sized-clocks (sized-state sizes l (length-set staged 10 0 ∙ length-set (now (a .state)) 12 (a .stage) ∙ sizes .state-count)) clocks (length-set (now (a .clocks)) 1 0 ∙ sizes .clock-count))
     (ap (λ (x : Command). withCommand x (view old)) (simp (not-true (eqb (a .stage) 0x41) (parts .1))))
-    (λ formed. both (both (parts .0) (both (ap not (and-false (writes (a .stage)))) (next-near old formed))) (bytes-agree old formed))
+    (λ formed. both (both (parts .0) (both (ap not (and-false (writes (a .stage)))) (next-near old formed))) (others-agree old formed))
 
 pub switched-spec : {M : Type 1} → statement M
 switched-spec =

@@ -8,6 +8,7 @@ use mathlib.Core.Path.{_≡_, refl, sym, ap, _∙_}
 use mathlib.Core.Bool.{Bool, true, false, not}
 use mathlib.Core.List.{[]}
 use Rattle.machine.specs.Frames.{receiving}
+use Rattle.machine.specs.Power.{standsStill}
 use Rattle.machine.specs.Refusals.{Call, deliver, refusal, refuseIf}
 use Rattle.state.specs.View.{view, withState, withSlots}
 use Rattle.state.specs.Lent.{clocksNumbersState, clocksNumbersStateRegistersSlotsEeprom}
@@ -65,18 +66,18 @@ entered past = start (past .before .before)
 cast-losing : tie.Need-cast-losing
 cast-losing c =
     let receives = c .before .before in
-    let past = receives .before .before .before .before .before .before .before .before .before .before in
+    let past = receives .before .before .before .before .before .before .before .before .before .before .before .before .before in
     let a = entered past .args in
     let few = few-bytes (now (a .bytes)) (now (a .parities)) (a .last-bits) (sym (past .before .frame-formed .ensures) ∙ not-false _ (past .if2 .left)) in
     record { fits = omega (arith, receives .received .ensures .1, few) }
 
-number : {r : Bool} (past : tie.Else2) (chip : Chip) → let s = entered past in let old = at-entry s chip in Whole old → r ≡ receiving (view old .command) →
-    (t : Bool) → r ≡ t → let n = refuseIf (not t) 4 0 in (chipRefusal old (called s) ≡ n) × (refusal (view old) (called s) ≡ n)
-number past chip whole is t e =
+number : (past : tie.Else2) (chip : Chip) → let s = entered past in let old = at-entry s chip in Whole old →
+    (t u : Bool) → receiving (view old .command) ≡ t → standsStill (view old) ≡ u → let n = refuseIf (not t) 4 (refuseIf u 4 0) in (chipRefusal old (called s) ≡ n) × (refusal (view old) (called s) ≡ n)
+number past chip whole t u receives stands =
     let s = entered past in
     let a = s .args in
     deliver-judged (at-entry s chip) (well-formed (past .before .before) chip whole) (now (a .bytes)) (now (a .parities)) (a .last-bits)
-    (past .before .frame-formed .ensures) (not-false _ (past .if2 .left)) is t e
+    (past .before .frame-formed .ensures) (not-false _ (past .if2 .left)) t u receives stands
 
 returns : tie.Need-returns
 returns c chip whole =
@@ -97,14 +98,29 @@ returns-3 : tie.Need-returns-3
 returns-3 c chip whole =
     let past = c .before .before .before in
     let old = at-entry (entered past) chip in
-    refused old (called (entered past)) 3 (number past chip whole (c .before .receives .ensures old) false (not-true _ (c .if3 .taken)) .0) whole
+    refused old (called (entered past)) 3 (number past chip whole false _ (sym (c .before .receives .ensures old) ∙ not-true _ (c .if3 .taken)) refl .0) whole
+
+stands-still-requires : tie.Need-stands-still-requires
+stands-still-requires c κs = search needs
 
 returns-4 : tie.Need-returns-4
 returns-4 c chip whole =
+    let asked = c .before in
+    let tested = asked .before .before in
+    let past = tested .before .before .before in
+    let old = at-entry (entered past) chip in
+    refused old (called (entered past)) 3
+    (number past chip whole true true (sym (tested .before .receives .ensures old) ∙ not-false _ (tested .if3 .left))
+    (sym (asked .stands-still .ensures old (own-fields-formed old (well-formed (past .before .before) chip whole))) ∙ c .if4 .taken) .0) whole
+
+returns-5 : tie.Need-returns-5
+returns-5 c chip whole =
     let judges = c .before in
     let receives = judges .before .before in
     let alerts = receives .before .before .before .before .before in
-    let tested = alerts .before .before in
+    let runs = alerts .before .before in
+    let asked = runs .before in
+    let tested = asked .before .before in
     let past = tested .before .before .before in
     let s = entered past in
     let a = s .args in
@@ -117,7 +133,8 @@ returns-4 c chip whole =
     let turn = then first (judges .alerted .ensures received (first .sizes)) in
     accepted-here old formed (called s) (withState (judges .alerted .last .0) received) (c .losing .result) []
     (known-bytes bytes (past .before .before .before .before .before .before .before .before .shared-slice-known .given)) whole
-    (number past chip whole (tested .before .receives .ensures old) true (not-false _ (tested .if3 .left)))
+    (number past chip whole true false (sym (tested .before .receives .ensures old) ∙ not-false _ (tested .if3 .left))
+    (sym (asked .stands-still .ensures old (own-fields-formed old formed)) ∙ runs .if4 .left))
     (record {
       answered = c .losing .ensures ∙ ap (λ (n : ℕ). coded (answer.lost n)) lost;
       turned =
@@ -138,9 +155,11 @@ deliver-spec =
     returns-2
     receives-requires
     returns-3
+    stands-still-requires
+    returns-4
     alerts-of-requires
     received-requires
     alerted-requires
     cast-losing
     losing-requires
-    returns-4)
+    returns-5)

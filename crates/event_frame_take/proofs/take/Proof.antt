@@ -4,7 +4,7 @@ use borrow.Author.Tests.{not-true, not-false}
 use denote.Ref.{now}
 use Prim.Native.Nat.{ℕ, _+_, _*_, _%_}
 use native.Mathlib.Omega.{arith}
-use mathlib.Core.Path.{_≡_, sym, ap, _∙_}
+use mathlib.Core.Path.{_≡_, refl, sym, ap, _∙_}
 use mathlib.Core.Bool.{true, false}
 use Rattle.machine.specs.Refusals.{takeFrame}
 use Rattle.machine.specs.Events.{bufferTaken}
@@ -55,7 +55,25 @@ returns-3 c chip whole =
     let s = entered (past .before .before) in
     let old = at-entry s chip in
     let buffer = now (s .args .buffer) in
-    let number = take-judged old (well-formed (past .before) chip whole) buffer (omega arith) (judged .frame-waits .ensures old) false (not-true _ (c .if3 .taken)) in
+    let number = take-judged old (well-formed (past .before) chip whole) buffer (omega arith) false _ (sym (judged .frame-waits .ensures old) ∙ not-true _ (c .if3 .taken)) refl in
+    refused old (takeFrame buffer) 3 (number .0) whole
+
+stands-still-requires : tie.Need-stands-still-requires
+stands-still-requires c κs = search needs
+
+returns-4 : tie.Need-returns-4
+returns-4 c chip whole =
+    let asked = c .before in
+    let waiting = asked .before in
+    let judged = waiting .before in
+    let past = judged .before .before in
+    let s = entered (past .before .before) in
+    let old = at-entry s chip in
+    let buffer = now (s .args .buffer) in
+    let formed = well-formed (past .before) chip whole in
+    let number =
+    take-judged old formed buffer (omega arith) true true (sym (judged .frame-waits .ensures old) ∙ not-false _ (waiting .if3 .left))
+    (sym (asked .stands-still .ensures old (own-fields-formed old formed)) ∙ c .if4 .taken) in
     refused old (takeFrame buffer) 3 (number .0) whole
 
 element-copy-out-last-bits : tie.Need-element-copy-out-last-bits
@@ -85,11 +103,13 @@ add-result c = search needs
 same-length : tie.Need-same-length
 same-length c = search needs
 
-returns-4 : tie.Need-returns-4
+returns-5 : tie.Need-returns-5
 unfolding viewOf bufferTaken
-returns-4 c chip whole =
+returns-5 c chip whole =
     let fills = c .before .before .before .before .before in
-    let waiting = fills .before .before .before .before in
+    let runs = fills .before .before .before .before in
+    let asked = runs .before in
+    let waiting = asked .before in
     let judged = waiting .before in
     let past = judged .before .before in
     let s = entered (past .before .before) in
@@ -100,7 +120,8 @@ returns-4 c chip whole =
     let goes = c .taken .ensures old (whole .sizes) in
     accepted-here old formed (takeFrame buffer) (withClocks (c .taken .last .0) (withState (c .taken .last .1 .0) old)) _ (fills .frame-into .last .1 .1 .1 .0)
     (known-bytes buffer (past .before .before .before .before .before .slice-known .given)) whole
-    (take-judged old formed buffer (omega arith) (judged .frame-waits .ensures old) true (not-false _ (waiting .if3 .left)))
+    (take-judged old formed buffer (omega arith) true false (sym (judged .frame-waits .ensures old) ∙ not-false _ (waiting .if3 .left))
+    (sym (asked .stands-still .ensures old (own-fields-formed old formed)) ∙ runs .if4 .left))
     (record {
       answered = ap (λ (n : ℕ). 0x100 * n + 0x1_0000 * (at (now (s .args .state)) 16 % 8)) (puts .counted);
       turned = goes .machine;
@@ -118,6 +139,8 @@ take-spec =
     returns-2
     frame-waits-requires
     returns-3
+    stands-still-requires
+    returns-4
     element-copy-out-last-bits
     frame-into-requires
     taken-requires
@@ -127,4 +150,4 @@ take-spec =
     mul-result-2
     add-result
     same-length
-    returns-4)
+    returns-5)

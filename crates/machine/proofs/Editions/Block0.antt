@@ -15,8 +15,9 @@ use Rattle.machine.specs.State.{Machine, Command, WriteE2, programming, 
 use Rattle.machine.specs.Timer.{timerClock}
 use Rattle.machine.specs.Memory.{storedFrom, programmingClocks}
 use Rattle.machine.specs.WellFormed.{commandFormed}
-use Rattle.machine.specs.Events.{programmingClocked, clock, clocks}
-use Rattle.machine.proofs.Cases.{by-cond, while-programming}
+use Rattle.machine.specs.Events.{programmingClocked, reached, clock, clocks}
+use Rattle.machine.specs.Power.{standsStill}
+use Rattle.machine.proofs.Cases.{by-cond, either, while-programming}
 use Rattle.machine.proofs.Clock.{timer-any, timer-command, end-any}
 use Rattle.machine.proofs.WellFormed.Parts.{each}
 
@@ -64,9 +65,9 @@ pub record Goes (m x : Machine) : Type 0 where
   pub kept : Keeps m x
   pub above-still : above (x .command) ≡ true
 
-pub clock-goes : (m : Machine) → above (m .command) ≡ true → Goes m (clock m)
-unfolding clock
-clock-goes m h =
+reached-goes : (m : Machine) → above (m .command) ≡ true → Goes m (reached m)
+unfolding reached
+reached-goes m h =
     while-programming (λ (f : Machine → Machine). Goes m (f (timerClock m))) programmingClocked (λ n. n) (m .command)
     (λ a bs left is.
     let low = leb-true 0x10 a (sym (ap above is) ∙ h) in
@@ -83,6 +84,13 @@ clock-goes m h =
 
     going : {x : Machine} → x .edition ≡ m .edition → take 0x10 (x .eeprom) ≡ take 0x10 (m .eeprom) → above (x .command) ≡ true → Goes m x
     going e l h = record { kept = record { edition = e; block-0 = l }; above-still = h }
+
+pub clock-goes : (m : Machine) → above (m .command) ≡ true → Goes m (clock m)
+unfolding clock
+clock-goes m h =
+    let g = reached-goes m h in
+    either (Goes m) (standsStill m) _ _ (record { kept = record { edition = refl; block-0 = refl }; above-still = h })
+    (record { kept = record { edition = g .kept .edition; block-0 = g .kept .block-0 }; above-still = g .above-still })
 
 pub clocks-kept : (n : ℕ) (m : Machine) → above (m .command) ≡ true → Keeps m (clocks n m)
 unfolding clocks

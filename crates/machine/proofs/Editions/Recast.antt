@@ -10,14 +10,15 @@ use lib.ListN.{length}
 use borrow.Author.Tests.{leb-true}
 use Rattle.edition.specs.declared.Edition.{Edition}
 use Rattle.bits.specs.Bits.{bitSet}
-use Rattle.machine.specs.State.{Machine, Command, Writing, Idle, WriteE2, ReadE2, LoadConfig, LoadKeyE2, LoadKey, CalcCRC, Transmit, Receive, TransceiveSending, TransceiveReceiving, addressing, ready, programming, withCommand, withHeld, withRegisters, withEeprom, withEdition, withControl, withRxLastBits}
+use Rattle.machine.specs.State.{Machine, Command, Writing, Idle, WriteE2, ReadE2, LoadConfig, LoadKeyE2, LoadKey, CalcCRC, Transmit, Receive, TransceiveSending, TransceiveReceiving, addressing, ready, programming, withCommand, withHeld, withRegisters, withEeprom, withEdition, withModes, withRxLastBits}
 use Rattle.machine.specs.Fifo.{registerAt, offered, offeredAll, lostOf, flushed, loAlert, hiAlert, alerted}
 use Rattle.machine.specs.Timer.{timerStarted, timerStopped, timerClock, TStartTxBegin, TStartTxEnd, TStopRx}
 use Rattle.machine.specs.Memory.{addressOf, bytesFrom, storedFrom, overRegisters}
 use Rattle.machine.specs.Commands.{programs, codeOf, commandStarted, commandWritten, clearedErrors, enough, argument, taken, writeStepped, readable, readBytes, readFrom, configuredFrom, keyFrom, keyJudged, raisedTx, raisedRx, ended, checksumTaken, steppedAs, stepped, settled, lostAs, lostStepping, lostSettling}
 use Rattle.machine.specs.Frames.{sending, txBegun, txEnded, afterSending, sent, parityWrong, anyParityWrong, parityFails, crcFails, passed, completeBytes, withFrameErrors, rxStopped, received, lostReceiving}
+use Rattle.machine.specs.Power.{standsStill}
 use Rattle.machine.specs.Registers.{mapped, controlWritten, registerWritten, lostAtRegister}
-use Rattle.machine.specs.Events.{batchStored, programmed, programmingClocked, commandClocked, clock, clocks, written, lostWriting, afterRead, advanced, delivered}
+use Rattle.machine.specs.Events.{batchStored, programmed, programmingClocked, commandClocked, reached, clock, clocks, written, lostWriting, afterRead, advanced, delivered}
 use Rattle.machine.specs.Events as events
 use Rattle.machine.proofs.Cases.{either, while-programming}
 use Rattle.machine.proofs.Lost.{lost-by-held}
@@ -200,7 +201,7 @@ module _ (e : Edition) (g : List ℕ → List ℕ) where
   -- A write to any register.
   control-same : (v : ℕ) (m : Machine) → S (controlWritten v (R m)) (controlWritten v m)
   control-same v m =
-      over (withControl _) (λ y. same refl)
+      over (withModes _) (λ y. same refl)
       (over (λ (x : Machine). cond (bitSet v 1) (timerStarted x) x) (λ y. pick (bitSet v 1) (same refl) (same refl))
       (over (λ (x : Machine). cond (bitSet v 2) (timerStopped x) x) (λ y. pick (bitSet v 2) (same refl) (same refl))
       (pick (bitSet v 0) {x = flushed m} (same refl) (same refl))))
@@ -285,14 +286,18 @@ module _ (e : Edition) (g : List ℕ → List ℕ) where
         pick (eqb (length (m .held)) 0) (over raisedTx (λ y. same refl) stored)
         (same (ap settled (stored .is) ∙ settled-same (batchStored a bs m) tt .is))
 
-    clock-same : (m : Machine) → above (m .command) ≡ true → S (clock (R m)) (clock m)
-    unfolding clock
-    clock-same m h =
+    reached-same : (m : Machine) → above (m .command) ≡ true → S (reached (R m)) (reached m)
+    unfolding reached
+    reached-same m h =
         over (commandClocked (m .command))
         (λ y.
         while-programming (λ (f : Machine → Machine). S (f (R y)) (f y)) programmingClocked (λ n. n) (m .command)
         (λ a bs left is. pick (leb left 1) (end-same a bs y (leb-true 0x10 a (sym (ap above is) ∙ h))) (same refl)) (same refl))
         (timer-same m)
+
+    clock-same : (m : Machine) → above (m .command) ≡ true → S (clock (R m)) (clock m)
+    unfolding clock
+    clock-same m h = pick (standsStill m) (same refl) (over (withModes _) (λ y. same refl) (reached-same m h))
 
     clocks-same : (n : ℕ) (m : Machine) → above (m .command) ≡ true → S (clocks n (R m)) (clocks n m)
     unfolding clocks

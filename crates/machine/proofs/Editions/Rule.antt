@@ -20,6 +20,7 @@ use Rattle.machine.specs.Commands.{commandWritten, stepped, settled, arg
 use Rattle.machine.specs.Frames.{sending, receiving}
 use Rattle.machine.specs.Registers.{mapped, registerRead, registerWritten}
 use Rattle.machine.specs.WellFormed.{fifoFormed, wellFormed}
+use Rattle.machine.specs.Power.{standsStill}
 use Rattle.machine.specs.Refusals.{Call, start, hostRead, hostWrite, advance, takeFrame, deliver, refusal, refuseIf, frameFormed}
 use Rattle.machine.specs.Events.{Outcome, refused, lost, accepted, bufferOf, bufferTaken, readByte, perform, afterCalls, started, written}
 use Rattle.machine.specs.Editions.{isStart, startsAnew, NoneStarts, commandReadsType, readsType, Alike, OwnType, AnswersAlike, EachAlike, NoneReads, typeRead, Editions}
@@ -89,23 +90,24 @@ own-again m c own = go (startsAnew m c) refl
     go true t = own-started m c t
     go false t = keeps-type (kept m c t) own
 
--- No other call is refused with 22: its numbers are 7, two more and 0.
-never : (a b c : Bool) (p q : ℕ) → p ≤ 6 → q ≤ 6 → refuseIf a 7 (refuseIf b p (refuseIf c q 0)) ≡ 22 → ⊥
-never true b c p q hp hq h = omega (arith, h)
-never false true c p q hp hq h = omega (arith, h, hp)
-never false false true p q hp hq h = omega (arith, h, hq)
-never false false false p q hp hq h = omega (arith, h)
+-- No other call is refused with 22: its numbers are 7, one or two more and 0.
+never : (a b c d : Bool) (p q : ℕ) → p ≤ 6 → q ≤ 6 → refuseIf a 7 (refuseIf b p (refuseIf c q (refuseIf d q 0))) ≡ 22 → ⊥
+never true b c d p q hp hq h = omega (arith, h)
+never false true c d p q hp hq h = omega (arith, h, hp)
+never false false true d p q hp hq h = omega (arith, h, hq)
+never false false false true p q hp hq h = omega (arith, h, hq)
+never false false false false p q hp hq h = omega (arith, h)
 
 only-of-start : (m : Machine) (c : Call) → refusal m c ≡ 22 → isStart c ≡ true
 unfolding refusal
 only-of-start m (start image) h = refl
-only-of-start m (hostRead address) h = absurd (never (not (wellFormed m)) (ltb 63 address) false 1 0 (omega arith) (omega arith) h)
-only-of-start m (hostWrite address v) h = absurd (never (not (wellFormed m)) (ltb 63 address) false 1 0 (omega arith) (omega arith) h)
-only-of-start m (advance n) h = absurd (never (not (wellFormed m)) false false 0 0 (omega arith) (omega arith) h)
+only-of-start m (hostRead address) h = absurd (never (not (wellFormed m)) (ltb 63 address) false false 1 0 (omega arith) (omega arith) h)
+only-of-start m (hostWrite address v) h = absurd (never (not (wellFormed m)) (ltb 63 address) false false 1 0 (omega arith) (omega arith) h)
+only-of-start m (advance n) h = absurd (never (not (wellFormed m)) false false false 0 0 (omega arith) (omega arith) h)
 only-of-start m (takeFrame buffer) h =
-    absurd (never (not (wellFormed m)) (ltb (length buffer) 66) (not (sending (m .command)) || eqb (length (m .held)) 0) 6 4 (omega arith) (omega arith) h)
+    absurd (never (not (wellFormed m)) (ltb (length buffer) 66) (not (sending (m .command)) || eqb (length (m .held)) 0) (standsStill m) 6 4 (omega arith) (omega arith) h)
 only-of-start m (deliver bytes parities lastBits) h =
-    absurd (never (not (wellFormed m)) (not (frameFormed bytes parities lastBits)) (not (receiving (m .command))) 5 4 (omega arith) (omega arith) h)
+    absurd (never (not (wellFormed m)) (not (frameFormed bytes parities lastBits)) (not (receiving (m .command))) (standsStill m) 5 4 (omega arith) (omega arith) h)
 
 -- A machine as another edition: e, with the first four bytes of b.
 module _ (e : Edition) (b : List ℕ) (has : 4 ≤ length b) where

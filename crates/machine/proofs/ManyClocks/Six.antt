@@ -14,10 +14,11 @@ use Rattle.machine.specs.State.{Machine, Command, whileProgramming}
 use Rattle.machine.specs.Memory.{roomInBlock}
 use Rattle.machine.specs.Timer.{timerClock}
 use Rattle.machine.specs.Commands.{programs}
-use Rattle.machine.specs.Events.{programmed, clock}
+use Rattle.machine.specs.Power.{standsStill}
+use Rattle.machine.specs.Events.{programmed, endsProgramming, clock}
 use Rattle.machine.specs.ManyClocks.{endsNext, endsWithin}
 use Rattle.machine.proofs.Cases.{Kind, still, under, kind, not-programming, by-cond}
-use Rattle.machine.proofs.Clock.{timer-command, timer-held, plain-clocked, goes-on, ends, end-any}
+use Rattle.machine.proofs.Clock.{timer-command, timer-held, clock-stands, clock-plain, goes-on, ends, end-any}
 
 -- How many programmings so many waiting bytes make from an address on: one up to the end of its block, and then one for each block.
 abbrev batches : ℕ → ℕ → ℕ
@@ -46,20 +47,19 @@ after-end a bs m =
     latched-one next (length (m .held)) (length (take (roomInBlock next) (m .held))) (length (drop (roomInBlock next) (m .held))) some (length-drop (roomInBlock next) (m .held))
     (λ fits. length-take-le (roomInBlock next) (m .held) fits))
 
--- One clock.
-one-clock : (m : Machine) → endsNext (m .command) + toEnd (clock m) ≤ toEnd m
-unfolding clock
-one-clock m = go (kind (m .command))
+-- One clock: none ends by it while a mode has hold, and what is to end stands.
+one-clock : (m : Machine) → endsNext m + toEnd (clock m) ≤ toEnd m
+one-clock m = by-hold (standsStill m) refl
   where
     x : Machine
     x = timerClock m
 
-    go : Kind (m .command) → endsNext (m .command) + toEnd (clock m) ≤ toEnd m
-    go (still idle) =
-        let same = plain-clocked (m .command) x idle in
-        let none : toEnd (clock m) ≡ 0 = ap toEnd same ∙ not-programming _ 0 (x .command) (ap programs (timer-command m) ∙ idle) in
-        omega (arith, none, not-programming {X = ℕ} (λ a bs left. cond (leb left 1) 1 0) 0 (m .command) idle)
-    go (under a bs left is) = by (leb left 1) refl
+    go : standsStill m ≡ false → Kind (m .command) → cond (endsProgramming (m .command)) 1 0 + toEnd (clock m) ≤ toEnd m
+    go runs (still idle) =
+        let none : toEnd (clock m) ≡ 0 = ap toEnd (clock-plain m runs idle) ∙ not-programming _ 0 (x .command) (ap programs (timer-command m) ∙ idle) in
+        let no-end : _≡_ {A = ℕ} (cond (endsProgramming (m .command)) 1 0) 0 = ap (λ (t : Bool). cond {A = ℕ} t 1 0) (not-programming {X = Bool} (λ a bs left. leb left 1) false (m .command) idle) in
+        omega (arith, none, no-end)
+    go runs (under a bs left is) = by (leb left 1) refl
       where
         due : ℕ
         due = batches ((a + length bs) % 0x200) (length (m .held))
@@ -67,18 +67,23 @@ one-clock m = go (kind (m .command))
         all : toEnd m ≡ suc due
         all = ap (λ (c : Command). whileProgramming (λ s cs l. suc (batches ((s + length cs) % 0x200) (length (m .held)))) 0 c) is
 
-        by : (t : Bool) → leb left 1 ≡ t → endsNext (m .command) + toEnd (clock m) ≤ toEnd m
+        end : (t : Bool) → leb left 1 ≡ t → _≡_ {A = ℕ} (cond (endsProgramming (m .command)) 1 0) (cond t 1 0)
+        end t e = ap (λ (c : Command). cond {A = ℕ} (endsProgramming c) 1 0) is ∙ ap (λ (u : Bool). cond {A = ℕ} u 1 0) e
+
+        by : (t : Bool) → leb left 1 ≡ t → cond (endsProgramming (m .command)) 1 0 + toEnd (clock m) ≤ toEnd m
         by true e =
-            let one : endsNext (m .command) ≡ 1 = ap endsNext is ∙ ap (λ (t : Bool). cond t 1 0) e in
             let next : toEnd (clock m) ≤ due =
-            subst (λ (y : Machine). toEnd y ≤ due) (sym (ends m a left bs is (leb-true left 1 e)))
+            subst (λ (y : Machine). toEnd y ≤ due) (sym (ends m a left bs runs is (leb-true left 1 e)))
             (subst (λ (h : List ℕ). toEnd (programmed a bs x) ≤ batches ((a + length bs) % 0x200) (length h)) (timer-held m) (after-end a bs x)) in
-            omega (arith, one, next, all)
+            omega (arith, end true e, next, all)
         by false e =
-            let none : endsNext (m .command) ≡ 0 = ap endsNext is ∙ ap (λ (t : Bool). cond t 1 0) e in
             let same : toEnd (clock m) ≡ suc due =
-            ap toEnd (goes-on m a left bs is (leb-false left 1 e)) ∙ ap (λ (h : List ℕ). suc (batches ((a + length bs) % 0x200) (length h))) (timer-held m) in
-            omega (arith, none, same, all)
+            ap toEnd (goes-on m a left bs runs is (leb-false left 1 e)) ∙ ap (λ (h : List ℕ). suc (batches ((a + length bs) % 0x200) (length h))) (timer-held m) in
+            omega (arith, end false e, same, all)
+
+    by-hold : (t : Bool) → standsStill m ≡ t → cond t 0 (cond (endsProgramming (m .command)) 1 0) + toEnd (clock m) ≤ toEnd m
+    by-hold true stands = let same : toEnd (clock m) ≡ toEnd m = ap toEnd (clock-stands m stands) in omega (arith, same)
+    by-hold false runs = go runs (kind (m .command))
 
 -- So however many come.
 within : (n : ℕ) (m : Machine) → endsWithin n m ≤ toEnd m

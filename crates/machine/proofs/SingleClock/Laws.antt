@@ -7,12 +7,13 @@ use mathlib.Core.Path.{_≡_, refl, sym, ap, _∙_}
 use mathlib.Core.Bool.{Bool, true, false, cond, not, _&&_, _||_, or-assoc}
 use lib.Dec.{ltb, leb, eqb}
 use lib.ListN.{length, drop, length-drop}
-use Rattle.machine.specs.State.{Machine, Command, Writing, Idle, WriteE2, ReadE2, LoadConfig, LoadKeyE2, LoadKey, CalcCRC, Transmit, Receive, TransceiveSending, TransceiveReceiving, addressing, ready, programming, withRequests}
+use Rattle.machine.specs.State.{Machine, Command, Writing, Idle, WriteE2, ReadE2, LoadConfig, LoadKeyE2, LoadKey, CalcCRC, Transmit, Receive, TransceiveSending, TransceiveReceiving, addressing, ready, programming, withRequests, withModes}
 use Rattle.machine.specs.Timer.{timerClock}
 use Rattle.machine.specs.Commands.{enough, writeStepped, steppedAs, stepped, settled}
 use Rattle.machine.specs.Memory.{roomInBlock}
 use Rattle.machine.proofs.Cases.{either, while-programming}
-use Rattle.machine.specs.Events.{programmingClocked, commandClocked, clock, clocks}
+use Rattle.machine.specs.Events.{programmingClocked, commandClocked, reached, endsProgramming, clock, clocks}
+use Rattle.machine.specs.Power.{modesClocked, standsStill}
 
 -- The machine with these requests of HiAlert and LoAlert.
 abbrev pub requesting : Bool → Bool → Machine → Machine
@@ -126,10 +127,14 @@ module _ (hi lo : Bool) where
       (dropping 0 refl refl refl))
       (still m)
 
-  -- A clock, and so any number of them.
+  -- A clock, whether it reaches timer and programming or not, and so any number of them.
+  reached-calm : (m : Machine) → Calm m (reached m) (reached (raising hi lo m))
+  unfolding reached
+  reached-calm m = followed (commandClocked (m .command)) (timer-calm m) (commandClocked-calm (m .command) (timerClock m))
+
   clock-calm : (m : Machine) → Calm m (clock m) (clock (raising hi lo m))
   unfolding clock
-  clock-calm m = followed (commandClocked (m .command)) (timer-calm m) (commandClocked-calm (m .command) (timerClock m))
+  clock-calm m = picks (standsStill m) (dropping 0 refl refl refl) (followed (withModes (modesClocked (endsProgramming (m .command)) (m .status .modes))) (reached-calm m) (dropping 0 refl refl refl))
 
   pub clocks-calm : (n : ℕ) (m : Machine) → Calm m (clocks n m) (clocks n (raising hi lo m))
   unfolding clocks

@@ -17,7 +17,8 @@ use Rattle.machine.specs.Memory.{programmingClocks, bytesFrom, storedFro
 use Rattle.machine.specs.Registers.{mapped, registerWritten}
 use Rattle.machine.specs.WellFormed.{commandFormed}
 use Rattle.machine.specs.Commands.{raisedTx, settled}
-use Rattle.machine.specs.Events.{started, written, afterRead, programmed, programmingClocked, commandClocked, clock, clocks, advanced, taken, delivered}
+use Rattle.machine.specs.Power.{standsStill}
+use Rattle.machine.specs.Events.{started, written, afterRead, programmed, programmingClocked, commandClocked, reached, clock, clocks, advanced, taken, delivered}
 use Rattle.machine.proofs.Cases.{by-cond, either, while-programming}
 use Rattle.machine.proofs.WellFormed.Parts.{Almost, Good, both, each, new-command, new-eeprom}
 use Rattle.machine.proofs.WellFormed.Memory.{from-bytes, stored-bytes, stored-length, over-bytes, over-length}
@@ -90,11 +91,15 @@ clocked-good c m ((p, r), is) =
     (λ e. (new-command p (WriteE2 (programming a bs (left - 1))) (left-formed a bs left (leb-false left 1 e) formed) w, p .held .fits)))
     (p, r)
 
--- Any number of clocks.
+-- One clock, and any number.
+clock-good : (m : Machine) → Good m → Good (clock m)
+unfolding clock reached
+clock-good m g = either Good (standsStill m) _ _ g (clocked-good (m .command) (timerClock m) (ticked m g))
+
 pub clocks-good : (n : ℕ) (m : Machine) → Good m → Good (clocks n m)
-unfolding clock clocks
+unfolding clocks
 clocks-good zero m g = g
-clocks-good (suc n) m g = clocks-good n (clock m) (clocked-good (m .command) (timerClock m) (ticked m g))
+clocks-good (suc n) m g = clocks-good n (clock m) (clock-good m g)
 
 -- An advance by clocks, a take and a delivery.
 pub advanced-good : (n : ℕ) (m : Machine) → Good m → Good (advanced n m)

@@ -55,9 +55,7 @@ received-good bytes parities lastBits m w few a =
     let heard = withRxLastBits lastBits (withFrameErrors (crcFails m bytes lastBits) (parityFails m bytes parities lastBits) (rxStopped m)) in
     let stopped = rxStopped m in
     let s : Almost stopped = either Almost (TStopRx m) (timerStopped m) m (stopped-almost m a) a in
-    let (page, more) = each (eqb (stopped .page / 8 % 16) 0) _ (s .bits) in
-    let (low, most) = each (eqb (stopped .status .control % 16) 0) _ more in
-    let (high, old) = each (eqb (stopped .status .control / 64) 0) _ most in
-    let h : Almost heard = new-bits s (stopped .page) (stopped .status .control) lastBits (both page (both low (both high (lt-ltb lastBits 8 (omega arith))))) in
+    let (page, old) = each (eqb (stopped .page / 8 % 16) 0) _ (s .bits) in
+    let h : Almost heard = new-bits s (stopped .page) lastBits (both page (lt-ltb lastBits 8 (omega arith))) in
     let frame = passed m bytes lastBits in
     ended-good (raisedRx (offeredAll frame heard)) (all-offered frame heard (passed-bytes m bytes lastBits w) h)

@@ -2,21 +2,23 @@
 -- Assumes nothing.
 use Prim.Native.Nat.{ℕ, suc}
 use mathlib.Core.Path.{_≡_, refl}
-use mathlib.Core.Bool.{true, false, not}
+use mathlib.Core.Bool.{true, false, not, _||_}
 use mathlib.Core.List.{List, [], _∷_}
-use lib.Dec.{leb, eqb, eqb·suc-zero}
+use lib.Dec.{ltb, leb, eqb, eqb·suc-zero}
 use lib.ListN.{length}
 use borrow.Author.Tests.{eqb-true, leb-true}
 use Rattle.edition.specs.Edition.{isOf, ofEither}
 use Rattle.edition.proofs.Laws.{own-type}
 use Rattle.machine.specs.State.{Machine}
+use Rattle.machine.specs.Frames.{sending, receiving}
 use Rattle.machine.specs.Registers.{mapped}
 use Rattle.machine.specs.WellFormed.{wellFormed}
 use Rattle.machine.specs.Refusals.{Call, start, hostRead, hostWrite, advance, takeFrame, deliver, ByteCall, allBits, frameFormed, refusal}
 use Rattle.machine.specs.Events.{Outcome, refused, bufferOf, accepted, perform, afterCalls, afterRead, started, clocks}
 use Rattle.machine.specs.WellFormedness.{Formed, EachByteCall, WellFormedness}
-use Rattle.machine.proofs.Cases.{by-cond}
-use Rattle.machine.proofs.WellFormed.Parts.{Good, each, good-formed, formed-good, well-edition, well-held, well-command}
+use Rattle.machine.proofs.Cases.{by-cond, neither}
+use Rattle.machine.proofs.WellFormed.Parts.{Good, each, good-formed, formed-good, well-edition, well-held, well-command, well-modes}
+use Rattle.machine.proofs.WellFormed.Modes.{Modal, after-read-modal, written-modal, clocks-modal, advanced-modal, taken-modal, delivered-modal}
 use Rattle.machine.proofs.Performing.{passed-test, not-false}
 use Rattle.machine.proofs.WellFormed.Events.{started-good, written-good, after-read-good, clocks-good, advanced-good, taken-good, delivered-good}
 use Rattle.machine.proofs.Editions.Block0.{formed-above, keeps-type, clocks-kept}
@@ -49,6 +51,23 @@ accepted-type m (advance n) e g own = keeps-type (accepted-kept m (advance n) re
 accepted-type m (takeFrame buffer) e g own = keeps-type (accepted-kept m (takeFrame buffer) refl (formed-above (m .command) (g .0 .command .formed))) own
 accepted-type m (deliver bytes parities lastBits) e g own = keeps-type (accepted-kept m (deliver bytes parities lastBits) refl (formed-above (m .command) (g .0 .command .formed))) own
 
+-- And its power modes are formed.
+accepted-modal : (m : Machine) (c : Call) → refusal m c ≡ 0 → Modal m → Modal (accepted m c .next)
+unfolding refusal started
+accepted-modal m (start image) e h = refl
+accepted-modal m (hostRead address) e h = after-read-modal address m h
+accepted-modal m (hostWrite address v) e h = written-modal address v m h
+accepted-modal m (advance n) e h = advanced-modal n m h
+accepted-modal m (takeFrame buffer) e h =
+    let room = passed-test (not (wellFormed m)) 6 _ e .1 in
+    let waits = passed-test (ltb (length buffer) 66) 5 _ room .1 in
+    let sends = neither (not (sending (m .command))) _ (passed-test (not (sending (m .command)) || eqb (length (m .held)) 0) 3 _ waits .0) .0 in
+    taken-modal m (not-false (sending (m .command)) sends) h
+accepted-modal m (deliver bytes parities lastBits) e h =
+    let formed = passed-test (not (wellFormed m)) 6 _ e .1 in
+    let receives = passed-test (not (frameFormed bytes parities lastBits)) 4 _ formed .1 in
+    delivered-modal bytes parities lastBits m (not-false (receiving (m .command)) (passed-test (not (receiving (m .command))) 3 _ receives .0)) h
+
 -- Any call.
 kept : (m : Machine) (c : Call) → ByteCall c → Formed m → Formed (perform m c .next)
 unfolding perform
@@ -57,7 +76,7 @@ kept m c w f =
     (λ e.
     let passed = eqb-true (refusal m c) 0 e in
     let good = formed-good m f in
-    good-formed (accepted m c .next) (accepted-good m c w passed good) (accepted-type m c passed good (well-edition m (f .well))))
+    good-formed (accepted m c .next) (accepted-good m c w passed good) (accepted-type m c passed good (well-edition m (f .well))) (accepted-modal m c passed (well-modes m (f .well))))
     (λ e. f)
 
 -- Any list of calls.
@@ -79,14 +98,14 @@ plain-read m address h = by-cond (λ (o : Outcome). o .next ≡ m) (eqb (refusal
 -- Any number of clocks.
 pub clocks-formed : (n : ℕ) (m : Machine) → Formed m → Formed (clocks n m)
 clocks-formed n m f =
-    let good = formed-good m f in good-formed (clocks n m) (clocks-good n m good) (keeps-type (clocks-kept n m (formed-above (m .command) (well-command m (f .well)))) (well-edition m (f .well)))
+    let good = formed-good m f in good-formed (clocks n m) (clocks-good n m good) (keeps-type (clocks-kept n m (formed-above (m .command) (well-command m (f .well)))) (well-edition m (f .well))) (clocks-modal n m (well-modes m (f .well)))
 
 -- The statement.
 pub well-formedness : WellFormedness
 unfolding started
 well-formedness =
     record {
-      starts = λ image w sized either. good-formed (started image) (started-good image w sized) (own-type image either);
+      starts = λ image w sized either. good-formed (started image) (started-good image w sized) (own-type image either) refl;
       kept = kept;
       always = always;
       refused-changes-nothing = refused-keeps;

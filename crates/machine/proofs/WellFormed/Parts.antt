@@ -10,7 +10,8 @@ use borrow.Author.Tests.{leb-true, le-leb}
 use Rattle.bits.specs.Bits.{Bytes}
 use Rattle.edition.specs.Edition.{isOf}
 use Rattle.machine.specs.State.{Machine, Command, Timer, Checksum, WriteE2, programming}
-use Rattle.machine.specs.WellFormed.{fifoFormed, nothingPends, timerFormed, commandFormed, checksumFormed, bitsFormed, waits, latchedBytes, wellFormed}
+use Rattle.machine.specs.Commands.{programs}
+use Rattle.machine.specs.WellFormed.{fifoFormed, nothingPends, timerFormed, commandFormed, checksumFormed, modesFormed, bitsFormed, waits, latchedBytes, wellFormed}
 use Rattle.machine.specs.WellFormedness.{Formed}
 
 -- Both of two tests hold, and each of two that hold together.
@@ -26,7 +27,10 @@ abbrev pub othersFormed : Machine → Bool
 othersFormed m =
     timerFormed (m .timer)
     && (commandFormed (m .command)
-    && (nothingPends (m .command) (m .held) && (checksumFormed (m .checksum) && bitsFormed (m .page) (m .status .control) (m .status .rxLastBits))))
+    && (nothingPends (m .command) (m .held)
+    && (checksumFormed (m .checksum)
+    && (modesFormed (programs (m .command)) (m .status .modes)
+    && bitsFormed (m .page) (m .status .rxLastBits)))))
 
 -- What a machine that is well formed has of it: a memory of its edition, at most 64 bytes held, a timer and a command that are formed.
 module _ (m : Machine) (well : wellFormed m ≡ true) where
@@ -48,6 +52,12 @@ module _ (m : Machine) (well : wellFormed m ≡ true) where
   pub well-command : commandFormed (m .command) ≡ true
   well-command = each (commandFormed (m .command)) _ (each (timerFormed (m .timer)) _ well-others .1) .0
 
+  pub well-modes : modesFormed (programs (m .command)) (m .status .modes) ≡ true
+  well-modes =
+      let (timed, h₂) = each (timerFormed (m .timer)) _ well-others in
+      let (commanded, h₃) = each (commandFormed (m .command)) _ h₂ in
+      let (rests, h₄) = each (nothingPends (m .command) (m .held)) _ h₃ in each (modesFormed (programs (m .command)) (m .status .modes)) _ (each (checksumFormed (m .checksum)) _ h₄ .1) .0
+
   -- a programming has a clock left
   pub some-left : (a left : ℕ) (bs : List ℕ) → m .command ≡ WriteE2 (programming a bs left) → 1 ≤ left
   some-left a left bs is = leb-true 1 left (each (leb 1 left) _ (sym (ap commandFormed is) ∙ well-command) .0)
@@ -68,8 +78,8 @@ pub record Memory (n : ℕ) (bs : List ℕ) : Type 0 where
   pub count : length bs ≡ n
 
 -- The parts, without what the command asks of the waiting bytes.
-pub record Parts (page control last : ℕ) (c : Command) (bs : List ℕ) (t : Timer) (s : Checksum) (rs es : List ℕ) : Type 0 where
-  pub bits : bitsFormed page control last ≡ true
+pub record Parts (page last : ℕ) (c : Command) (bs : List ℕ) (t : Timer) (s : Checksum) (rs es : List ℕ) : Type 0 where
+  pub bits : bitsFormed page last ≡ true
   pub command : Active c
   pub held : Waiting bs
   pub timer : timerFormed t ≡ true
@@ -79,7 +89,7 @@ pub record Parts (page control last : ℕ) (c : Command) (bs : List ℕ) (t : Ti
 
 -- A machine that is well formed but for waiting bytes that its command could take.
 abbrev pub Almost : Machine → Type 0
-Almost m = Parts (m .page) (m .status .control) (m .status .rxLastBits) (m .command) (m .held) (m .timer) (m .checksum) (m .registers) (m .eeprom)
+Almost m = Parts (m .page) (m .status .rxLastBits) (m .command) (m .held) (m .timer) (m .checksum) (m .registers) (m .eeprom)
 
 -- The same under a name that does not compute, for long chains of choices.
 pub record Kept (m : Machine) : Type 0 where
@@ -92,14 +102,14 @@ keep m a = record { parts = a }
 abbrev pub Rests : Machine → Type 0
 Rests m = length (m .held) ≤ waits (m .command)
 
--- A well-formed machine, but for what is asked of its edition.
+-- A well-formed machine, but for what is asked of its edition and of its power modes.
 abbrev pub Good : Machine → Type 0
 Good m = Almost m × Rests m
 
--- With a memory of its edition, it is what being well formed says, both ways.
-pub good-formed : (m : Machine) → Good m → isOf (m .edition) (m .eeprom) ≡ true → Formed m
+-- With a memory of its edition, and its modes formed, it is what being well formed says, both ways.
+pub good-formed : (m : Machine) → Good m → isOf (m .edition) (m .eeprom) ≡ true → modesFormed (programs (m .command)) (m .status .modes) ≡ true → Formed m
 unfolding wellFormed
-good-formed m (a, r) own =
+good-formed m (a, r) own modes =
     record {
       well =
           both own
@@ -108,7 +118,8 @@ good-formed m (a, r) own =
           (both (a .command .formed)
           (both (le-leb (length (m .held)) (waits (m .command)) r)
           (both (a .checksum)
-          (a .bits))))));
+          (both modes
+          (a .bits)))))));
       sized =
           record {
             held-bytes = a .held .bytes;
@@ -125,7 +136,8 @@ formed-good m f =
     let (timed, h₂) = each (timerFormed (m .timer)) _ (well-others m (f .well)) in
     let (commanded, h₃) = each (commandFormed (m .command)) _ h₂ in
     let (rests, h₄) = each (nothingPends (m .command) (m .held)) _ h₃ in
-    let (summed, bits) = each (checksumFormed (m .checksum)) _ h₄ in (
+    let (summed, h₅) = each (checksumFormed (m .checksum)) _ h₄ in
+    let (modes, bits) = each (modesFormed (programs (m .command)) (m .status .modes)) _ h₅ in (
       record {
         bits = bits;
         command = record { formed = commanded; latched = f .sized .latched-bytes };
@@ -139,24 +151,24 @@ formed-good m f =
     )
 
 -- One part is changed, the others stay.
-module _ {page control last : ℕ} {c : Command} {bs : List ℕ} {t : Timer} {s : Checksum} {rs es : List ℕ} (p : Parts page control last c bs t s rs es) where
-  pub new-bits : (page′ control′ last′ : ℕ) → bitsFormed page′ control′ last′ ≡ true → Parts page′ control′ last′ c bs t s rs es
-  new-bits page′ control′ last′ h = record { bits = h; command = p .command; held = p .held; timer = p .timer; checksum = p .checksum; registers = p .registers; eeprom = p .eeprom }
+module _ {page last : ℕ} {c : Command} {bs : List ℕ} {t : Timer} {s : Checksum} {rs es : List ℕ} (p : Parts page last c bs t s rs es) where
+  pub new-bits : (page′ last′ : ℕ) → bitsFormed page′ last′ ≡ true → Parts page′ last′ c bs t s rs es
+  new-bits page′ last′ h = record { bits = h; command = p .command; held = p .held; timer = p .timer; checksum = p .checksum; registers = p .registers; eeprom = p .eeprom }
 
-  pub new-command : (c′ : Command) → commandFormed c′ ≡ true → Bytes (latchedBytes c′) → Parts page control last c′ bs t s rs es
+  pub new-command : (c′ : Command) → commandFormed c′ ≡ true → Bytes (latchedBytes c′) → Parts page last c′ bs t s rs es
   new-command c′ h w = record { bits = p .bits; command = record { formed = h; latched = w }; held = p .held; timer = p .timer; checksum = p .checksum; registers = p .registers; eeprom = p .eeprom }
 
-  pub new-held : (bs′ : List ℕ) → length bs′ ≤ 64 → Bytes bs′ → Parts page control last c bs′ t s rs es
+  pub new-held : (bs′ : List ℕ) → length bs′ ≤ 64 → Bytes bs′ → Parts page last c bs′ t s rs es
   new-held bs′ h w = record { bits = p .bits; command = p .command; held = record { fits = h; bytes = w }; timer = p .timer; checksum = p .checksum; registers = p .registers; eeprom = p .eeprom }
 
-  pub new-timer : (t′ : Timer) → timerFormed t′ ≡ true → Parts page control last c bs t′ s rs es
+  pub new-timer : (t′ : Timer) → timerFormed t′ ≡ true → Parts page last c bs t′ s rs es
   new-timer t′ h = record { bits = p .bits; command = p .command; held = p .held; timer = h; checksum = p .checksum; registers = p .registers; eeprom = p .eeprom }
 
-  pub new-checksum : (s′ : Checksum) → checksumFormed s′ ≡ true → Parts page control last c bs t s′ rs es
+  pub new-checksum : (s′ : Checksum) → checksumFormed s′ ≡ true → Parts page last c bs t s′ rs es
   new-checksum s′ h = record { bits = p .bits; command = p .command; held = p .held; timer = p .timer; checksum = h; registers = p .registers; eeprom = p .eeprom }
 
-  pub new-registers : (rs′ : List ℕ) → Bytes rs′ → length rs′ ≡ 32 → Parts page control last c bs t s rs′ es
+  pub new-registers : (rs′ : List ℕ) → Bytes rs′ → length rs′ ≡ 32 → Parts page last c bs t s rs′ es
   new-registers rs′ w h = record { bits = p .bits; command = p .command; held = p .held; timer = p .timer; checksum = p .checksum; registers = record { bytes = w; count = h }; eeprom = p .eeprom }
 
-  pub new-eeprom : (es′ : List ℕ) → Bytes es′ → length es′ ≡ 512 → Parts page control last c bs t s rs es′
+  pub new-eeprom : (es′ : List ℕ) → Bytes es′ → length es′ ≡ 512 → Parts page last c bs t s rs es′
   new-eeprom es′ w h = record { bits = p .bits; command = p .command; held = p .held; timer = p .timer; checksum = p .checksum; registers = p .registers; eeprom = record { bytes = w; count = h } }

@@ -13,38 +13,27 @@ use Rattle.machine.specs.State.{Machine}
 use Rattle.machine.specs.Fifo.{flushed}
 use Rattle.machine.specs.Timer.{timerStarted, timerStopped}
 use Rattle.machine.specs.Registers.{pageWritten, controlWritten, registerWritten}
-use Rattle.machine.specs.WellFormed.{bitsFormed}
 use Rattle.machine.proofs.Cases.{either}
 use Rattle.machine.proofs.WellFormed.Parts.{Almost, Kept, keep, both, each, new-bits, new-registers}
 use Rattle.machine.proofs.WellFormed.Timer.{started-almost, stopped-almost}
 use Rattle.machine.proofs.WellFormed.Fifo.{emptied, offered-almost}
 use Rattle.machine.proofs.WellFormed.Commands.{written-almost}
 
--- Page and Control keep the bits that read 0.
+-- Page keeps the bits that read 0.
 page-almost : (v : ℕ) (m : Machine) → Almost m → Almost (pageWritten v m)
 page-almost v m a =
     let page = 128 * bit v 7 + v % 8 in
-    let (old, control) = each (eqb (m .page / 8 % 16) 0) _ (a .bits) in
-    new-bits a page (m .status .control) (m .status .rxLastBits) (both (eq-eqb (page / 8 % 16) 0 (omega arith)) control)
-
-control-bits : (v : ℕ) (m : Machine) → Almost m → bitsFormed (m .page) (32 * bit v 5 + 16 * bit v 4) (m .status .rxLastBits) ≡ true
-control-bits v m a =
-    let control = 32 * bit v 5 + 16 * bit v 4 in
-    let (page, old) = each (eqb (m .page / 8 % 16) 0) _ (a .bits) in
-    let (low, more) = each (eqb (m .status .control % 16) 0) _ old in
-    let (high, last) = each (eqb (m .status .control / 64) 0) _ more in
-    both page (both (eq-eqb (control % 16) 0 (omega arith)) (both (eq-eqb (control / 64) 0 (omega arith)) last))
+    let (old, last) = each (eqb (m .page / 8 % 16) 0) _ (a .bits) in
+    new-bits a page (m .status .rxLastBits) (both (eq-eqb (page / 8 % 16) 0 (omega arith)) last)
 
 -- A write to Control.
 control-almost : (v : ℕ) (m : Machine) → Almost m → Almost (controlWritten v m)
 control-almost v m a =
     let flushes = cond (bitSet v 0) (flushed m) m in
     let stops = cond (bitSet v 2) (timerStopped flushes) flushes in
-    let starts = cond (bitSet v 1) (timerStarted stops) stops in
     let f : Almost flushes = either Almost (bitSet v 0) (flushed m) m (emptied m a) a in
     let s : Almost stops = either Almost (bitSet v 2) (timerStopped flushes) flushes (stopped-almost flushes f) f in
-    let t : Almost starts = either Almost (bitSet v 1) (timerStarted stops) stops (started-almost stops s) s in
-    new-bits t (starts .page) (32 * bit v 5 + 16 * bit v 4) (starts .status .rxLastBits) (control-bits v starts t)
+    either Almost (bitSet v 1) (timerStarted stops) stops (started-almost stops s) s
 
 -- Any register.
 pub register-almost : (r v : ℕ) (m : Machine) → v < 256 → Almost m → Almost (registerWritten r v m)

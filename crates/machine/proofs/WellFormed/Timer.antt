@@ -11,13 +11,8 @@ use Rattle.bits.proofs.Bytes.{byte-at}
 use Rattle.machine.specs.State.{Machine, Timer, Command, withTimer}
 use Rattle.machine.specs.Timer.{TPreScaler, TAutoRestart, TimerReload, stoppedAt, runningAt, loadedTimer, restarted, timerStarted, timerStopped, timerStepped, timerClock}
 use Rattle.machine.specs.WellFormed.{timerFormed}
-use Rattle.machine.proofs.Cases.{by-cond, either}
+use Rattle.machine.proofs.Cases.{by-cond, either, neither}
 use Rattle.machine.proofs.WellFormed.Parts.{Almost, Good, both, each, new-timer}
-
--- Neither of two tests holds.
-neither : (a b : Bool) → (a || b) ≡ false → (a ≡ false) × (b ≡ false)
-neither true b h = absurd (true≢false h)
-neither false b h = (refl, h)
 
 -- A number that is not 0 is at least 1.
 positive : (n : ℕ) → eqb n 0 ≡ false → 1 ≤ n

@@ -8,7 +8,7 @@ use Rattle.machine.specs.State.{Idle, withCommand}
 use Rattle.machine.proofs.WellFormed.Parts.{both}
 use Rattle.state.specs.View.{viewOf}
 use Rattle.state.specs.Lent.{clocksState}
-use Rattle.state.proofs.StoreLaws.{at-set, stored, next-near, bytes-agree}
+use Rattle.state.proofs.StoreLaws.{at-set, stored, next-near, others-agree}
 use Rattle.state.proofs.TurnLaws.{then, sized-clocks, sized-state}
 use Rattle.state.proofs.ended.Statement.{statement}
 use Rattle.state.proofs.ended.Tie as tie
@@ -33,7 +33,7 @@ returns c chip sizes =
     let stops = stored idle (at-set (now (a .clocks)) 1 0 (omega (arith, sizes .clock-count))) refl (at-set (now (a .state)) 12 0x00 (omega (arith, sizes .state-count)))
     (withCommand Idle) old
     (sized-clocks (sized-state sizes l (length-set (now (a .state)) 12 0x00 ∙ sizes .state-count)) clocks (length-set (now (a .clocks)) 1 0 ∙ sizes .clock-count))
-    refl (λ formed. both (next-near old formed) (bytes-agree old formed)) in
+    refl (λ formed. both (next-near old formed) (others-agree old formed)) in
     then stops (c .requested .ensures idle (stops .sizes))
 
 pub ended-spec : {M : Type 1} → statement M

@@ -89,12 +89,28 @@ element-copy-out-room-2 c = search needs
 room-requires : tie.Need-room-requires
 room-requires c κs = search needs
 
+element-copy-out-modes-formed : tie.Need-element-copy-out-modes-formed
+element-copy-out-modes-formed c = search needs
+
+element-copy-out-modes-formed-2 : tie.Need-element-copy-out-modes-formed-2
+element-copy-out-modes-formed-2 c = search needs
+
+element-copy-out-modes-formed-3 : tie.Need-element-copy-out-modes-formed-3
+element-copy-out-modes-formed-3 c = search needs
+
+element-copy-out-modes-formed-4 : tie.Need-element-copy-out-modes-formed-4
+element-copy-out-modes-formed-4 c = search needs
+
+modes-formed-requires : tie.Need-modes-formed-requires
+modes-formed-requires c κs = search needs
+
 of-own-edition-requires : tie.Need-of-own-edition-requires
 of-own-edition-requires c κs = search needs
 
 returns : tie.Need-returns
 returns c chip sizes =
-    let room = c .before in
+    let modes = c .before in
+    let room = modes .before .before .before .before .before in
     let holding = room .before .before .before in
     let writing = holding .before in
     let checksum = writing .before .before .before .before .before in
@@ -110,7 +126,7 @@ returns c chip sizes =
     (joined (writing .writing-formed .ensures)
     (joined
     (ap (λ (n : ℕ). ltb n (room .room .result)) (holding .held .ensures .counted) ∙ ap (ltb (heldCount (at state 13) (at state 14))) (room .room .ensures))
-    (c .of-own-edition .ensures))))))
+    (joined (modes .modes-formed .ensures) (c .of-own-edition .ensures)))))))
     ∙ sym (clauses (clocksNumbersStateEeprom (now (a .clocks)) (now (a .numbers)) state (now (a .eeprom)) chip) (sizes .latch-count))
 
 pub formed-spec : {M : Type 1} → statement M
@@ -143,5 +159,10 @@ formed-spec =
     element-copy-out-room
     element-copy-out-room-2
     room-requires
+    element-copy-out-modes-formed
+    element-copy-out-modes-formed-2
+    element-copy-out-modes-formed-3
+    element-copy-out-modes-formed-4
+    modes-formed-requires
     of-own-edition-requires
     returns)

@@ -17,27 +17,32 @@ abbrev fields : tie.Start → Core
 fields s = let a = s .args in coreOf (now (a .clocks)) (now (a .numbers)) (now (a .state))
 
 -- Before the first test.
-abbrev worded : tie.After-both → tie.After-word
-worded call = call .before .before
+abbrev moded : tie.After-none → tie.After-modes-word
+moded call = call .before .before
 
-abbrev began : tie.After-both → tie.Start
+abbrev worded : tie.After-none → tie.After-word
+worded call = moded call .before .before .before
+
+abbrev began : tie.After-none → tie.Start
 began call = worded call .before .before .before .before .before .before .before .before .before
 
 -- What is left to be asked after it, and after the third.
-usually : (call : tie.After-both) {t : Bool} → let k = fields (began call) in eqb (call .both .result) 0 ≡ t →
+usually : (call : tie.After-none) {t : Bool} → let k = fields (began call) in eqb (call .none .result) 0 ≡ t →
     usual k ≡ (t && (ltb (k .next) 0x200 && (restsWith (k .stage) (heldCount (k .read) (k .write)) && timerFieldsFormed (k .running) (k .value) (k .prescaler) (k .phase))))
-usually call is = joined (joined (sym (worded call .word .ensures)) refl ∙ sym (call .both .ensures) ∙ is) refl
+usually call is =
+    let k = fields (began call) in
+    joined (joined (sym (worded call .word .ensures)) (ap (λ (t : Bool). eqb (k .left) 0 && t) (sym (moded call .modes-word .ensures))) ∙ sym (call .none .ensures) ∙ is) refl
 
-abbrev both-asked : tie.After-rests → tie.After-both
-both-asked call = call .before .before .before .before .before .before
+abbrev none-asked : tie.After-rests → tie.After-none
+none-asked call = call .before .before .before .before .before .before
 
-resting : (call : tie.After-rests) {t : Bool} → let k = fields (began (both-asked call)) in call .rests .result ≡ t →
+resting : (call : tie.After-rests) {t : Bool} → let k = fields (began (none-asked call)) in call .rests .result ≡ t →
     usual k ≡ (t && timerFieldsFormed (k .running) (k .value) (k .prescaler) (k .phase))
 resting call is =
     let holding = call .before in
     let near = holding .before .before in
     let calm = near .before .before in
-    let k = fields (began (both-asked call)) in
+    let k = fields (began (none-asked call)) in
     usually (calm .before) (eq-eqb _ 0 (calm .if1 .left))
     ∙ joined (lt-ltb (k .next) 0x200 (near .if2 .left)) (joined (ap (restsWith (k .stage)) (sym (holding .held .ensures .counted)) ∙ sym (call .rests .ensures) ∙ is) refl)
 
@@ -68,11 +73,20 @@ element-copy-out-word-8 c = search needs
 word-requires : tie.Need-word-requires
 word-requires c κs = search needs
 
-element-copy-out-both : tie.Need-element-copy-out-both
-element-copy-out-both c = search needs
+element-copy-out-modes-word : tie.Need-element-copy-out-modes-word
+element-copy-out-modes-word c = search needs
 
-both-requires : tie.Need-both-requires
-both-requires c κs = search needs
+element-copy-out-modes-word-2 : tie.Need-element-copy-out-modes-word-2
+element-copy-out-modes-word-2 c = search needs
+
+modes-word-requires : tie.Need-modes-word-requires
+modes-word-requires c κs = search needs
+
+element-copy-out-none : tie.Need-element-copy-out-none
+element-copy-out-none c = search needs
+
+none-requires : tie.Need-none-requires
+none-requires c κs = search needs
 
 returns : tie.Need-returns
 returns c chip = sym (usually (c .before) (ne-eqb _ 0 (c .if1 .taken)))
@@ -130,8 +144,11 @@ quick-spec =
     element-copy-out-word-7
     element-copy-out-word-8
     word-requires
-    element-copy-out-both
-    both-requires
+    element-copy-out-modes-word
+    element-copy-out-modes-word-2
+    modes-word-requires
+    element-copy-out-none
+    none-requires
     returns
     element-copy-out-if2
     returns-2

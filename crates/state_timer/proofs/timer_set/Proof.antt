@@ -11,7 +11,7 @@ use Rattle.machine.proofs.WellFormed.Parts.{both}
 use Rattle.state.specs.View.{at, isSet, view, viewOf}
 use Rattle.state.specs.Formed.{isFlag}
 use Rattle.state.specs.Lent.{clocksState}
-use Rattle.state.proofs.StoreLaws.{put, at-set, at-set-two, stored, stage-agrees, bytes-agree, put-formed}
+use Rattle.state.proofs.StoreLaws.{put, at-set, at-set-two, stored, stage-agrees, modes-agree, bytes-agree, put-formed}
 use Rattle.state.proofs.TurnLaws.{sized-clocks, sized-state}
 use Rattle.state_timer.proofs.timer_set.Statement.{statement}
 use Rattle.state_timer.proofs.timer_set.Tie as tie
@@ -58,8 +58,9 @@ returns c chip sizes =
     (sized-clocks (sized-state sizes new-bytes (simp length-set whole)) new-clocks (simp length-set (sizes .clock-count)))
     (ap (λ (t : Bool). withTimer (record { running = t; value = value; prescaler = prescaler; phase = 0 }) (view old)) (flag-set (c .args .running)))
     (λ formed. both (stage-agrees old formed)
+    (both (modes-agree old formed)
     (put-formed (put 9 prescaler (put 8 running (at bytes))) 15 value 12 refl
-    (put-formed (put 8 running (at bytes)) 9 prescaler 12 refl (put-formed (at bytes) 8 running 12 (flag-formed (c .args .running)) (bytes-agree old formed)))))
+    (put-formed (put 8 running (at bytes)) 9 prescaler 12 refl (put-formed (at bytes) 8 running 12 (flag-formed (c .args .running)) (bytes-agree old formed))))))
 
 pub timer-set-spec : {M : Type 1} → statement M
 timer-set-spec =

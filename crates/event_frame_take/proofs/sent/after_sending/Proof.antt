@@ -9,7 +9,7 @@ use Rattle.machine.specs.Frames.{afterSending}
 use Rattle.machine.proofs.WellFormed.Parts.{both}
 use Rattle.state.specs.View.{core, view, viewOf}
 use Rattle.state.specs.Lent.{clocksState}
-use Rattle.state.proofs.StoreLaws.{at-set, stored, stage-agrees, bytes-agree}
+use Rattle.state.proofs.StoreLaws.{at-set, stored, stage-agrees, others-agree}
 use Rattle.state.proofs.TurnLaws.{becomes, sized-state}
 use Rattle.event_frame_take.proofs.SentLaws.{transceive-sends, others-end, receives-agrees}
 use Rattle.event_frame_take.proofs.sent.after_sending.Statement.{statement}
@@ -32,7 +32,7 @@ returns c chip sizes =
     stored (clocksState (now (a .clocks)) receiving chip) refl refl (at-set l 12 0x9E (omega (arith, sizes .state-count))) (λ m. afterSending (m .command) m) old
     (sized-state sizes receiving (length-set l 12 0x9E ∙ sizes .state-count))
     (ap (λ (d : Command). afterSending d (view old)) (transceive-sends k (chip .latch) (c .if1 .taken)))
-    (λ formed. both (receives-agrees (k .stage) (k .latched) (k .left) (k .next) (c .if1 .taken) (stage-agrees old formed)) (bytes-agree old formed))
+    (λ formed. both (receives-agrees (k .stage) (k .latched) (k .left) (k .next) (c .if1 .taken) (stage-agrees old formed)) (others-agree old formed))
 
 ended-requires : tie.Need-ended-requires
 ended-requires c κs = search needs

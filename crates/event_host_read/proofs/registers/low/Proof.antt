@@ -16,7 +16,7 @@ use Rattle.state.proofs.MeetLaws.{own-fields-formed}
 use Rattle.state.proofs.RingLaws.{count-length}
 use Rattle.state.proofs.StoreLaws.{byte-agrees, stage-agrees}
 use Rattle.event_host_read.proofs.ReadLaws.{read-as}
-use Rattle.event_host_read.proofs.ShownLaws.{error-byte, interrupt-byte, stage-code}
+use Rattle.event_host_read.proofs.ShownLaws.{control-byte, error-byte, interrupt-byte, stage-code}
 use Rattle.event_host_read.proofs.registers.low.Statement.{statement}
 use Rattle.event_host_read.proofs.registers.low.Tie as tie
 
@@ -118,7 +118,7 @@ unfolding viewOf registerRead
 returns-6 c below eighth n02 n03 chip formed =
     let found = c .before in
     let here = at-entry (found .before) chip in
-    read-as _ 0x09 _ (view here) (found .match .keys6) refl
+    read-as _ 0x09 _ (view here) (found .match .keys6) (control-byte (core here .control) (core here .standBy) (core here .powerDown) (byte-agrees here (own-fields-formed here formed) 1 (lit< tt)))
 
 returns-7 : tie.Need-returns-7
 unfolding viewOf registerRead

@@ -1,13 +1,13 @@
--- `command_begin::programs` meets its contract, by whether clocks are left. Assumes nothing.
+-- `state::programs` meets its contract, by whether clocks are left. Assumes nothing.
 use borrow.Author.Needs.{needs}
 use borrow.Author.Tests.{eq-eqb, ne-eqb}
 use denote.Ref.{now}
 use mathlib.Core.Path.{sym, _∙_}
 use Rattle.state.specs.View.{core, viewOf}
 use Rattle.state.specs.Lent.{clocksState}
-use Rattle.command_begin.proofs.BeginLaws.{stage-programs}
-use Rattle.command_begin.proofs.programs.Statement.{statement}
-use Rattle.command_begin.proofs.programs.Tie as tie
+use Rattle.state.proofs.StageLaws.{stage-programs}
+use Rattle.state.proofs.programs.Statement.{statement}
+use Rattle.state.proofs.programs.Tie as tie
 
 element-copy-out-if1 : tie.Need-element-copy-out-if1
 element-copy-out-if1 c = search needs

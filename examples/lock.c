@@ -1,5 +1,5 @@
 /* A first firmware, as a lock maker would write it: the chip is started from the shipped image, interrupts are enabled, a key is loaded, a
- * checksum is compared with a known one, and a card answers a Transceive. Every step prints what the registers show.
+ * checksum is compared with a known one, a card answers a Transceive, and the chip rests in PowerDown. Every step prints what the registers show.
  *
  * make run builds and runs it; by hand:  cc -Iinclude examples/lock.c build/libmfrc531.a -o lock
  */
@@ -102,6 +102,19 @@ static void transceive(void)
     printf("\n");
 }
 
+/* The battery is spared until the next card: registers, key and FIFO stay as they are. A 0 begins the leaving, and the bit reads 1 until its end. */
+static void power_down(void)
+{
+    unsigned clocks = 0;
+    put(MFRC531_REG_CONTROL, MFRC531_POWER_DOWN);
+    done("advance", mfrc531_advance(&chip, MFRC531_CLOCKS_PER_SECOND));
+    show("a second in PowerDown");
+    put(MFRC531_REG_CONTROL, 0);
+    for (; get(MFRC531_REG_CONTROL) & MFRC531_POWER_DOWN; clocks++)
+        done("advance", mfrc531_advance(&chip, 1));
+    printf("PowerDown left                     in %u clocks\n", clocks);
+}
+
 /* What a wrong call gets: a number, and nothing changes. */
 static void show_refusal(const char *call, mfrc531_answer answer)
 {
@@ -123,6 +136,7 @@ int main(void)
     load_key();
     check_crc();
     transceive();
+    power_down();
     refused();
     return 0;
 }

@@ -20,7 +20,7 @@
  * registers 00h-07h. Address 22h then is FIFOData (02h), not ChannelRedundancy. Write 00h to Page first, and addresses are linear.
  *
  * Time. Only mfrc531_advance gives the chip clocks. Reads, writes, takes and deliveries take no time, however many there are: a loop that polls
- * E2Ready or TimerIRq ends only if it advances too. EEPROM programming lasts MFRC531_PROGRAMMING_CLOCKS, more than one advance may give.
+ * E2Ready, TimerIRq or the end of PowerDown ends only if it advances too. EEPROM programming lasts MFRC531_PROGRAMMING_CLOCKS.
  *
  * Frames. Transmit and Transceive send nothing by themselves. The frame is what the FIFO holds when you call mfrc531_take, so take once all bytes
  * are written; TxIRq and the timer's start by TStartTxBegin or TStartTxEnd come with the take. Transceive receives from then on, Receive at
@@ -28,6 +28,10 @@
  *
  * Alerts. LoAlertIRq and HiAlertIRq are judged over a whole call: set where LoAlert or HiAlert was 0 before it and is 1 after it. What the FIFO
  * held in between counts for nothing, such as a byte that CalcCRC takes in the call that writes it.
+ *
+ * Power modes. StandBy and PowerDown are bits of Control (09h). In either mode the timer and EEPROM programming stand still and no frame is taken or
+ * delivered; all else works. A 0 does not end a mode at once: its leaving takes 4 or 512 clocks, and the bit reads 1 until then. Every write of
+ * Control writes both bits: a flush by 01h begins the leaving of both. The rules stand with enum mfrc531_control_bits.
  *
  * Lost bytes. A byte that is offered to the FIFO while it holds 64 is lost, and FIFOOvfl is set. A write or a delivery answers how many were lost in
  * it (mfrc531_lost_of). So its answer need not be 0 where it is not refused: compare mfrc531_refusal_of(answer) with MFRC531_NOT_REFUSED, not the
@@ -45,13 +49,13 @@
 #include <stdint.h>
 
 /* The version of this header and of the library. MINOR rises by one with each request that lands (docs/landings); 11 is the state with R-2,
- * R-6 and R-11, 12 brought R-4, 13 R-3, 14 R-10, 15 R-9. With a new MINOR compile firmware again, as the chip's layout may have changed. PATCH rises
- * with any other change. MAJOR is 0 until the layout is final; from then on it rises when a name, the layout or an answer changes, so that firmware
- * has to be looked at. */
+ * R-6 and R-11, 12 brought R-4, 13 R-3, 14 R-10, 15 R-9, 16 R-8. With a new MINOR compile firmware again, as the chip's layout may have changed.
+ * PATCH rises with any other change. MAJOR is 0 until the layout is final; from then on it rises when a name, the layout or an answer changes, so that
+ * firmware has to be looked at. */
 #define MFRC531_VERSION_MAJOR 0
-#define MFRC531_VERSION_MINOR 15
+#define MFRC531_VERSION_MINOR 16
 #define MFRC531_VERSION_PATCH 0
-#define MFRC531_VERSION_STRING "0.15.0"
+#define MFRC531_VERSION_STRING "0.16.0"
 
 /* Sizes in bytes, and clocks of 13.56 MHz. */
 #define MFRC531_FIFO_SIZE 64
@@ -63,6 +67,8 @@
 #define MFRC531_CLOCKS_PER_SECOND 13560000
 #define MFRC531_MOST_CLOCKS 4294967295u  /* of one advance: every number of 32 bits */
 #define MFRC531_PROGRAMMING_CLOCKS 78648 /* from the latching of bytes by WriteE2 until they are in EEPROM, 5.8 ms */
+#define MFRC531_STAND_BY_CLOCKS 4        /* that StandBy takes to be left */
+#define MFRC531_POWER_DOWN_CLOCKS 512    /* that PowerDown takes to be left */
 
 #ifdef __cplusplus
 extern "C" {
@@ -111,7 +117,7 @@ static inline const char *mfrc531_refusal_text(unsigned number)
     case MFRC531_ADDRESS_ABOVE_63: return "the host address is above 63";
     case MFRC531_IMAGE_NOT_512_BYTES: return "the image is not 512 bytes";
     case MFRC531_RESERVED_3: return "reserved: no call is refused with it";
-    case MFRC531_NOT_SENDING_OR_RECEIVING: return "the chip does not send, holds no byte, or does not receive";
+    case MFRC531_NOT_SENDING_OR_RECEIVING: return "the chip does not send, holds no byte, does not receive, or is in a power mode";
     case MFRC531_FRAME_MALFORMED: return "the received frame is malformed";
     case MFRC531_BUFFER_UNDER_66_BYTES: return "the buffer is under 66 bytes";
     case MFRC531_CHIP_MALFORMED: return "the memory is no chip's state";
@@ -236,7 +242,7 @@ enum mfrc531_fifo_length_bits {
 
 enum mfrc531_secondary_status_bits {
     MFRC531_T_RUNNING = 0x80,
-    MFRC531_E2_READY = 0x40,  /* no programming runs */
+    MFRC531_E2_READY = 0x40,  /* no programming runs, and none stands still in a power mode */
     MFRC531_CRC_READY = 0x20, /* reads 1 */
     MFRC531_RX_LAST_BITS_MASK = 0x07
 };
@@ -263,8 +269,20 @@ enum mfrc531_interrupt_rq_bits {
     MFRC531_LO_ALERT_IRQ = 0x01
 };
 
-/* Control. Only StandBy and PowerDown read back, and they have no effect here. A write with several of the others flushes the FIFO, then stops
- * the timer, then starts it. */
+/* Control. Only StandBy and PowerDown read back, and every write writes both. A write with several of the others flushes the FIFO, then stops the
+ * timer, then starts it.
+ *
+ * While either mode has hold, no clock counts for the timer or the programming, and a take or a delivery is refused with 4. All else goes on: reads,
+ * writes and commands, a flush, a start or stop of the timer, the latching of bytes by WriteE2. A programming that stands still is one all the same:
+ * E2Ready is 0, and writes of Command are ignored.
+ *
+ * A 1 takes hold at once, but not while there is a programming, running or standing still. Then the bit reads 1 and waits, without other effect, and
+ * takes hold at the end of the clock that ends this programming. Bytes that wait are latched in that clock, for a programming that stands still.
+ *
+ * A 0 takes back a bit that waits, at once. Else it begins the leaving: MFRC531_STAND_BY_CLOCKS or MFRC531_POWER_DOWN_CLOCKS more clocks, in which the
+ * bit reads 1 and the mode has hold. Both modes are left side by side; the clock after the later end counts again. During a leaving another 0 changes
+ * nothing, and a 1 keeps the mode, so that the next 0 begins the whole count: firmware that reads Control, sets a bit and writes it back writes this
+ * 1. */
 enum mfrc531_control_bits {
     MFRC531_STAND_BY = 0x20,
     MFRC531_POWER_DOWN = 0x10,
@@ -374,18 +392,28 @@ enum mfrc531_stage {
     MFRC531_STAGE_TRANSCEIVE_RECEIVING = 0x9E
 };
 
+/* What stand_by and power_down are, each beside its bit of Control. 0: the mode is off, or waits where the bit is 1. MFRC531_MODE_HOLD: it has hold.
+ * With clocks to go besides: it is being left. Malformed, for each by itself: the bit 1 without hold where there is no programming; hold where the bit
+ * is 0; clocks to go without hold, or more than MFRC531_STAND_BY_CLOCKS or MFRC531_POWER_DOWN_CLOCKS of them. */
+enum mfrc531_mode {
+    MFRC531_MODE_HOLD = 0x8000,
+    MFRC531_MODE_TO_GO = 0x7FFF /* a mask: clocks until the mode is left, 0 where it is not being left */
+};
+
 /* A chip's whole state. Begin with mfrc531_start, which takes any memory. Read it freely; what you write into it is judged by the next call.
  *
  * The reserved fields are for later requests, so that these move nothing: no call looks at them, and a start leaves them 0. */
 typedef struct {
     uint32_t timer_phase;      /* clocks since the latest timer step; 0 while the timer stands */
-    uint32_t programming_left; /* clocks until WriteE2's programming ends; 0 where none runs */
+    uint32_t programming_left; /* clocks until WriteE2's programming ends, not counting those in power modes; 0 where there is none */
     uint16_t crc_register;     /* the CRC register, before CRC3309 complements it */
     uint16_t next_address;     /* where WriteE2's next byte goes */
     uint16_t lost_sum;         /* what mfrc531_lost_sum answers; no value is malformed */
-    uint16_t reserved_numbers[3];
+    uint16_t reserved_number;
+    uint16_t stand_by;         /* StandBy, as enum mfrc531_mode has it */
+    uint16_t power_down;       /* PowerDown, likewise */
     uint8_t page;                  /* Page */
-    uint8_t control;               /* Control, of which bits 5 and 4 are kept */
+    uint8_t control;               /* Control, of which bits 5 and 4 are kept, as they read */
     uint8_t key_loaded;            /* 1 where the key buffer holds a key, else 0 */
     uint8_t rx_last_bits;          /* RxLastBits of SecondaryStatus */
     uint8_t interrupt_en;          /* InterruptEn */
@@ -420,7 +448,9 @@ MFRC531_AT(programming_left, 4);
 MFRC531_AT(crc_register, 8);
 MFRC531_AT(next_address, 10);
 MFRC531_AT(lost_sum, 12);
-MFRC531_AT(reserved_numbers, 14);
+MFRC531_AT(reserved_number, 14);
+MFRC531_AT(stand_by, 16);
+MFRC531_AT(power_down, 18);
 MFRC531_AT(page, 20);
 MFRC531_AT(control, 21);
 MFRC531_AT(key_loaded, 22);
@@ -462,20 +492,21 @@ mfrc531_answer mfrc531_read(mfrc531_chip *chip, uint8_t address);
  * Refuses: 7 the chip is malformed; 1 the address is above 63. */
 mfrc531_answer mfrc531_write(mfrc531_chip *chip, uint8_t address, uint8_t byte);
 
-/* An advance by clocks of 13.56 MHz, for the timer and the EEPROM programming: the only call in which time passes. n clocks are n times one clock, and
- * cost no more than one does, but for the programmings that end, of which there are at most six.
+/* An advance by clocks of 13.56 MHz, for the timer and the EEPROM programming, or in a power mode for its leaving alone: the only call in which time
+ * passes. n clocks are n times one clock, and cost no more than one does, but for the programmings that end, at most six, and leavings, at most two.
  * Refuses: 7 the chip is malformed. */
 mfrc531_answer mfrc531_advance(mfrc531_chip *chip, uint32_t clocks);
 
 /* A take of the frame that the chip sends, into a buffer; later bytes of the buffer stay. Value: the number of bytes written, at most 66. Last
  * bits: BitFraming (0Fh) bits 2-0.
- * Refuses: 7 the chip is malformed; 6 the buffer is under 66 bytes; 4 the chip does not send, or holds no byte. */
+ * Refuses: 7 the chip is malformed; 6 the buffer is under 66 bytes; 4 the chip does not send, holds no byte, or is in a power mode, also
+ * while this is being left. */
 mfrc531_answer mfrc531_take(mfrc531_chip *chip, uint8_t *buffer, size_t length);
 
 /* A delivery of a frame that the chip receives: its bytes, a parity value (0 or 1) for each, and how many bits of the last byte count (0: all). Lost:
  * up to 64. A checksum that the chip drops is not offered to the FIFO, so it is not lost.
  * Refuses: 7 the chip is malformed; 5 no or over 64 bytes, another number of parity values, a parity value above 1, or last bits above 7;
- * 4 the chip does not receive. */
+ * 4 the chip does not receive, or is in a power mode, also while this is being left. */
 mfrc531_answer mfrc531_deliver(mfrc531_chip *chip, const uint8_t *bytes, size_t length, const uint8_t *parities, size_t parity_length,
                                uint8_t last_bits);
 

@@ -33,6 +33,8 @@ static uint8_t get(uint8_t address)
 
 static void put(uint8_t address, uint8_t byte) { CHECK(mfrc531_write(&chip, address, byte) == MFRC531_NOT_REFUSED); }
 
+static void pass(uint32_t clocks) { CHECK(mfrc531_advance(&chip, clocks) == MFRC531_NOT_REFUSED); }
+
 static void start(void) { CHECK(mfrc531_start(&chip, mfrc531_shipped_image(), MFRC531_EEPROM_SIZE) == MFRC531_NOT_REFUSED); }
 
 static void version(void)
@@ -286,6 +288,192 @@ static void lost_bytes(void)
     CHECK(mfrc531_lost_sum(&chip) == 0 && get(MFRC531_REG_ERROR_FLAG) & MFRC531_FIFO_OVFL);
 }
 
+/* The two modes: the bit of Control, the clocks of its leaving, and the number in the chip. */
+static const struct { uint8_t bit; uint16_t clocks, *number; } modes[] = {
+    {MFRC531_STAND_BY, MFRC531_STAND_BY_CLOCKS, &chip.stand_by},
+    {MFRC531_POWER_DOWN, MFRC531_POWER_DOWN_CLOCKS, &chip.power_down},
+};
+enum { MODES = sizeof modes / sizeof *modes, BOTH = MFRC531_STAND_BY | MFRC531_POWER_DOWN };
+
+/* A chip with linear addresses and a timer that falls by one at every clock, from 255; and where it is then. */
+static void run_timer(void)
+{
+    start();
+    CHECK(chip.stand_by == 0 && chip.power_down == 0);
+    put(MFRC531_REG_PAGE, 0x00);
+    put(MFRC531_REG_TIMER_CLOCK, 0);
+    put(MFRC531_REG_TIMER_RELOAD, 255);
+    put(MFRC531_REG_CONTROL, MFRC531_T_START_NOW);
+}
+
+static void timer_at(uint8_t value) { CHECK(get(MFRC531_REG_TIMER_VALUE) == value && (get(MFRC531_REG_SECONDARY_STATUS) & MFRC531_T_RUNNING) != 0); }
+
+/* WriteE2 from an address on, with so many bytes. */
+static void write_e2(uint8_t address, int count)
+{
+    put(MFRC531_REG_COMMAND, MFRC531_CMD_WRITE_E2);
+    put(MFRC531_REG_FIFO_DATA, address);
+    put(MFRC531_REG_FIFO_DATA, 0x00);
+    for (int i = 0; i < count; i++)
+        put(MFRC531_REG_FIFO_DATA, 0xA5);
+    CHECK((get(MFRC531_REG_SECONDARY_STATUS) & MFRC531_E2_READY) == 0 && chip.programming_left == MFRC531_PROGRAMMING_CLOCKS);
+}
+
+/* In either mode time stands still and no frame is taken or delivered; reads, writes and commands work. Its leaving takes its own clocks. */
+static void power_modes(void)
+{
+    static const uint8_t byte[] = {0x12}, parity[] = {1}, no_parity[] = {2};
+    uint8_t frame[MFRC531_TAKE_BUFFER_SIZE];
+    for (size_t i = 0; i < MODES; i++) {
+        run_timer();
+        pass(1);
+        put(MFRC531_REG_CONTROL, modes[i].bit);
+        CHECK(get(MFRC531_REG_CONTROL) == modes[i].bit && *modes[i].number == MFRC531_MODE_HOLD);
+        pass(MFRC531_MOST_CLOCKS);
+        timer_at(254);
+        put(MFRC531_REG_COMMAND, MFRC531_CMD_CALC_CRC);
+        put(MFRC531_REG_FIFO_DATA, 0x12);
+        put(MFRC531_REG_FIFO_DATA, 0x34);
+        CHECK(get(MFRC531_REG_CRC_RESULT_LSB) == 0x26 && get(MFRC531_REG_CRC_RESULT_MSB) == 0xCF);
+        put(MFRC531_REG_COMMAND, MFRC531_CMD_TRANSCEIVE);
+        put(MFRC531_REG_FIFO_DATA, 0x26);
+        put(MFRC531_REG_CONTROL, 0);
+        for (uint16_t left = modes[i].clocks; left > 0; left--) { /* a clock in each round */
+            CHECK(get(MFRC531_REG_CONTROL) == modes[i].bit && *modes[i].number == (MFRC531_MODE_HOLD | left));
+            CHECK((*modes[i].number & MFRC531_MODE_TO_GO) == left && modem_state() == MFRC531_MODEM_TX_DATA);
+            mfrc531_chip before = chip;
+            CHECK(mfrc531_take(&chip, frame, sizeof frame - 1) == MFRC531_BUFFER_UNDER_66_BYTES);
+            CHECK(mfrc531_take(&chip, frame, sizeof frame) == MFRC531_NOT_SENDING_OR_RECEIVING);
+            CHECK(memcmp(&chip, &before, sizeof chip) == 0);
+            timer_at(254);
+            pass(1);
+        }
+        CHECK(get(MFRC531_REG_CONTROL) == 0 && *modes[i].number == 0 && get(MFRC531_REG_INTERRUPT_RQ) == MFRC531_TX_IRQ); /* that of CalcCRC */
+        timer_at(254);
+        pass(1);
+        timer_at(253);
+        CHECK(mfrc531_value_of(mfrc531_take(&chip, frame, sizeof frame)) == 1 && frame[0] == 0x26);
+        put(MFRC531_REG_CONTROL, modes[i].bit);
+        CHECK(mfrc531_deliver(&chip, byte, sizeof byte, no_parity, sizeof no_parity, 0) == MFRC531_FRAME_MALFORMED);
+        CHECK(mfrc531_deliver(&chip, byte, sizeof byte, parity, sizeof parity, 0) == MFRC531_NOT_SENDING_OR_RECEIVING);
+        put(MFRC531_REG_CONTROL, MFRC531_FLUSH_FIFO); /* which writes both bits too */
+        pass(modes[i].clocks - 1);
+        CHECK(mfrc531_deliver(&chip, byte, sizeof byte, parity, sizeof parity, 0) == MFRC531_NOT_SENDING_OR_RECEIVING);
+        pass(1);
+        CHECK(mfrc531_deliver(&chip, byte, sizeof byte, parity, sizeof parity, 0) == MFRC531_NOT_REFUSED);
+
+        /* During a leaving: another 0 changes nothing, a 1 keeps the mode, and the next 0 begins the whole count. */
+        put(MFRC531_REG_CONTROL, modes[i].bit);
+        put(MFRC531_REG_CONTROL, 0);
+        pass(modes[i].clocks - 1);
+        put(MFRC531_REG_CONTROL, 0);
+        CHECK(*modes[i].number == (MFRC531_MODE_HOLD | 1));
+        put(MFRC531_REG_CONTROL, get(MFRC531_REG_CONTROL) | MFRC531_FLUSH_FIFO);
+        CHECK(*modes[i].number == MFRC531_MODE_HOLD);
+        pass(MFRC531_MOST_CLOCKS);
+        CHECK(get(MFRC531_REG_CONTROL) == modes[i].bit);
+        put(MFRC531_REG_CONTROL, 0);
+        CHECK(*modes[i].number == (MFRC531_MODE_HOLD | modes[i].clocks));
+        start();
+        CHECK(chip.control == 0 && *modes[i].number == 0);
+    }
+
+    /* Both, left side by side: the timer waits for the later end. */
+    run_timer();
+    put(MFRC531_REG_CONTROL, BOTH);
+    put(MFRC531_REG_CONTROL, 0);
+    pass(MFRC531_STAND_BY_CLOCKS - 1);
+    CHECK(get(MFRC531_REG_CONTROL) == BOTH);
+    pass(1);
+    CHECK(get(MFRC531_REG_CONTROL) == MFRC531_POWER_DOWN && chip.stand_by == 0);
+    pass(MFRC531_POWER_DOWN_CLOCKS - MFRC531_STAND_BY_CLOCKS - 1);
+    CHECK(get(MFRC531_REG_CONTROL) == MFRC531_POWER_DOWN && chip.power_down == (MFRC531_MODE_HOLD | 1));
+    pass(11);
+    CHECK(get(MFRC531_REG_CONTROL) == 0);
+    timer_at(245);
+    put(MFRC531_REG_CONTROL, BOTH);
+    put(MFRC531_REG_CONTROL, MFRC531_POWER_DOWN); /* StandBy alone is left, while PowerDown has hold */
+    pass(MFRC531_STAND_BY_CLOCKS);
+    CHECK(get(MFRC531_REG_CONTROL) == MFRC531_POWER_DOWN && chip.power_down == MFRC531_MODE_HOLD);
+    timer_at(245);
+}
+
+/* A bit that is set over a programming waits for its end. */
+static void power_modes_wait(void)
+{
+    for (size_t i = 0; i < MODES; i++) {
+        const uint8_t other = modes[i].bit ^ BOTH;
+        run_timer();
+        write_e2(0x3F, 2); /* in two blocks, so in two programmings */
+        put(MFRC531_REG_CONTROL, modes[i].bit);
+        CHECK(get(MFRC531_REG_CONTROL) == modes[i].bit && *modes[i].number == 0);
+        pass(10);
+        timer_at(245);
+        CHECK(chip.programming_left == MFRC531_PROGRAMMING_CLOCKS - 10);
+        put(MFRC531_REG_CONTROL, 0); /* takes it back at once */
+        CHECK(get(MFRC531_REG_CONTROL) == 0 && *modes[i].number == 0);
+        put(MFRC531_REG_CONTROL, modes[i].bit);
+        pass(MFRC531_PROGRAMMING_CLOCKS - 11);
+        CHECK(*modes[i].number == 0 && chip.programming_left == 1);
+        put(MFRC531_REG_CONTROL, modes[i].bit | MFRC531_T_START_NOW);
+        pass(1000); /* the first of them ends the programming and counts for the timer, the others for nothing */
+        timer_at(254);
+        CHECK(*modes[i].number == MFRC531_MODE_HOLD && chip.eeprom[0x3F] == 0xA5 && chip.eeprom[0x40] == 0x00);
+        CHECK(chip.programming_left == MFRC531_PROGRAMMING_CLOCKS && get(MFRC531_REG_FIFO_LENGTH) == 0);
+        CHECK((get(MFRC531_REG_SECONDARY_STATUS) & MFRC531_E2_READY) == 0);
+        put(MFRC531_REG_COMMAND, MFRC531_CMD_IDLE); /* ignored, though the programming stands still */
+        CHECK(get(MFRC531_REG_COMMAND) == MFRC531_CMD_WRITE_E2);
+        put(MFRC531_REG_CONTROL, other); /* the one is left, the other waits for the programming that stands still */
+        CHECK(get(MFRC531_REG_CONTROL) == BOTH && *modes[1 - i].number == 0);
+        pass(modes[i].clocks);
+        CHECK(get(MFRC531_REG_CONTROL) == other && *modes[1 - i].number == 0);
+        pass(MFRC531_PROGRAMMING_CLOCKS - 1);
+        CHECK(chip.eeprom[0x40] == 0x00);
+        pass(1);
+        CHECK(chip.eeprom[0x40] == 0xA5 && *modes[1 - i].number == MFRC531_MODE_HOLD);
+        CHECK((get(MFRC531_REG_SECONDARY_STATUS) & MFRC531_E2_READY) != 0);
+
+        /* Bytes that are written in the mode are latched, and stand still; a 1 during the leaving keeps the mode though there is a programming. */
+        put(MFRC531_REG_FIFO_DATA, 0x5A);
+        pass(MFRC531_MOST_CLOCKS);
+        CHECK(chip.programming_left == MFRC531_PROGRAMMING_CLOCKS && chip.eeprom[0x41] == 0x00);
+        put(MFRC531_REG_CONTROL, 0);
+        pass(modes[1 - i].clocks - 1);
+        put(MFRC531_REG_CONTROL, other);
+        pass(MFRC531_MOST_CLOCKS);
+        CHECK(*modes[1 - i].number == MFRC531_MODE_HOLD && chip.programming_left == MFRC531_PROGRAMMING_CLOCKS);
+        put(MFRC531_REG_CONTROL, 0);
+        pass(modes[1 - i].clocks + MFRC531_PROGRAMMING_CLOCKS);
+        CHECK(chip.programming_left == 0 && chip.eeprom[0x41] == 0x5A);
+    }
+}
+
+/* Every number of a mode, with its bit and without, with a programming and without: what is malformed, and nothing else. */
+static void malformed_modes(void)
+{
+    for (size_t i = 0; i < MODES; i++)
+        for (int programming = 0; programming < 2; programming++) {
+            start();
+            put(MFRC531_REG_PAGE, 0x00);
+            if (programming)
+                write_e2(0x30, 1);
+            const mfrc531_chip before = chip;
+            for (unsigned set = 0; set < 2; set++)
+                for (uint32_t number = 0; number < 65536; number++) {
+                    int hold = (number & MFRC531_MODE_HOLD) != 0, to_go = number & MFRC531_MODE_TO_GO;
+                    chip.control = set ? modes[i].bit : 0;
+                    *modes[i].number = number;
+                    if (set ? (hold ? to_go > modes[i].clocks : to_go > 0 || !programming) : number > 0)
+                        malformed();
+                    else {
+                        pass(0);
+                        CHECK(get(MFRC531_REG_CONTROL) == (set ? modes[i].bit : 0));
+                    }
+                    chip = before;
+                }
+        }
+}
+
 /* Codes that the bench does not execute. */
 static void unknown_codes(void)
 {
@@ -393,6 +581,9 @@ int main(void)
     alerts();
     answer_parts();
     lost_bytes();
+    power_modes();
+    power_modes_wait();
+    malformed_modes();
     unknown_codes();
     refusals();
     profiles();

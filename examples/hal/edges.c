@@ -404,6 +404,72 @@ static void full_fifo(void)
     CHECK(lost_by_then == 0 && hal_lost_sum(&hal) == 0);
 }
 
+/* Reads Control until a bit is 0, and gives how many reads found it 1. */
+static unsigned awaited(uint8_t bit)
+{
+    unsigned reads = 0;
+    while (ReadIO(MFRC531_REG_CONTROL) & bit)
+        reads++;
+    return reads;
+}
+
+/* StandBy and PowerDown: no frame leaves at a poll and an answer is missed, until the mode is left. Waiting for that by reads of Control ends, by their
+ * own clocks. */
+static void power_modes(void)
+{
+    static const struct { uint8_t bit; uint32_t clocks; } modes[] = {
+        {MFRC531_STAND_BY, MFRC531_STAND_BY_CLOCKS}, {MFRC531_POWER_DOWN, MFRC531_POWER_DOWN_CLOCKS}};
+    begin();
+    for (unsigned i = 0; i < 2; i++) {
+        uint8_t bit = modes[i].bit;
+        unsigned frames = script.frames;
+        answers(two_bytes, 2);
+        WriteIO(MFRC531_REG_CONTROL, bit);
+        WriteIO(MFRC531_REG_COMMAND, MFRC531_CMD_TRANSCEIVE);
+        WriteIO(MFRC531_REG_FIFO_DATA, 0x30);
+        CHECK(modem_state() == MFRC531_MODEM_TX_DATA && ReadIO(MFRC531_REG_FIFO_LENGTH) == 1);
+        hal_delay(1000000);
+        CHECK(hal_irq_pin() == 1 && script.frames == frames);
+        WriteIO(MFRC531_REG_CONTROL, 0x00);
+        uint64_t before = hal.clocks;
+        CHECK(awaited(bit) == (modes[i].clocks - 1) / HAL_ACCESS_CLOCKS);
+        CHECK(hal.clocks - before >= modes[i].clocks && hal.clocks - before < modes[i].clocks + HAL_ACCESS_CLOCKS);
+        CHECK(ReadIO(MFRC531_REG_CONTROL) == 0x00 && script.frames == frames); /* a read of Control is no poll */
+        CHECK(modem_state() == MFRC531_MODEM_AWAITING_RX && script.frames == frames + 1);
+
+        WriteIO(MFRC531_REG_CONTROL, bit); /* the answer comes while the chip cannot receive */
+        hal_delay(100);
+        CHECK(hal.answers_missed == 2 * i + 1 && modem_state() == MFRC531_MODEM_AWAITING_RX);
+        WriteIO(MFRC531_REG_CONTROL, 0x00);
+        hal_delay(38); /* 515 clocks */
+        CHECK(ReadIO(MFRC531_REG_CONTROL) == 0x00);
+        WriteIO(MFRC531_REG_CONTROL, bit);
+        CHECK(exchanged(5000) == DRIVER_OK && exchange.answer_count == 2); /* it begins with a flush, which writes the bit too */
+        CHECK(ReadIO(MFRC531_REG_CONTROL) == 0x00);
+
+        hal.access_clocks = 3; /* of a bus at its quickest; an answer that comes with the leaving's last clock but one, and with the last */
+        script.answer.clocks = modes[i].clocks + 2;
+        for (unsigned late = 0; late < 2; late++) {
+            WriteIO(MFRC531_REG_FIFO_DATA, 0x30);
+            WriteIO(MFRC531_REG_COMMAND, MFRC531_CMD_TRANSMIT);
+            hal_delay(0); /* the frame leaves */
+            hal.access_clocks = 0;
+            WriteIO(MFRC531_REG_COMMAND, MFRC531_CMD_RECEIVE);
+            WriteIO(MFRC531_REG_CONTROL, bit);
+            hal.access_clocks = 3 - late;
+            ReadIO(MFRC531_REG_CONTROL);
+            hal.access_clocks = 0;
+            WriteIO(MFRC531_REG_CONTROL, 0x00);
+            hal.access_clocks = 3;
+            CHECK(awaited(bit) == (modes[i].clocks - 1) / 3);
+            hal_delay(1);
+            CHECK(hal.answers_missed == 2 * i + 2 && ReadIO(MFRC531_REG_FIFO_LENGTH) == (late ? 2 : 0));
+            WriteIO(MFRC531_REG_CONTROL, MFRC531_FLUSH_FIFO);
+        }
+        hal.access_clocks = HAL_ACCESS_CLOCKS;
+    }
+}
+
 /* A Command written before any poll ends the sending. */
 static void taken_back(void)
 {
@@ -603,6 +669,7 @@ static const struct {
     {"command_first", command_first},
     {"two_commands", two_commands},
     {"full_fifo", full_fifo},
+    {"power_modes", power_modes},
     {"taken_back", taken_back},
     {"pin", pin},
     {"delays", delays},

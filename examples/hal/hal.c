@@ -48,16 +48,20 @@ static uint8_t looked_at(const struct hal *hal, uint8_t reg)
     return accepted(hal, "look", reg, answer) ? mfrc531_value_of(answer) : 0;
 }
 
+/* In StandBy or PowerDown, in which no frame is taken or delivered. A bit that waits for a programming is 1 too, but then the chip neither sends nor
+ * receives. */
+static bool rests(const mfrc531_chip *chip) { return (chip->control & (MFRC531_STAND_BY | MFRC531_POWER_DOWN)) != 0; }
+
 /* A frame can be taken. */
 static bool sends(const mfrc531_chip *chip)
 {
     bool sending = chip->stage == MFRC531_STAGE_TRANSMIT || chip->stage == MFRC531_STAGE_TRANSCEIVE_SENDING;
-    return sending && chip->fifo_write != chip->fifo_read;
+    return sending && chip->fifo_write != chip->fifo_read && !rests(chip);
 }
 
 static bool receives(const mfrc531_chip *chip)
 {
-    return chip->stage == MFRC531_STAGE_RECEIVE || chip->stage == MFRC531_STAGE_TRANSCEIVE_RECEIVING;
+    return (chip->stage == MFRC531_STAGE_RECEIVE || chip->stage == MFRC531_STAGE_TRANSCEIVE_RECEIVING) && !rests(chip);
 }
 
 /* The register that Page makes of an address is one that firmware waits on. */

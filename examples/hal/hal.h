@@ -20,6 +20,10 @@
  * or a delay if that is where they end. If the chip does not receive at that clock (Receive, or Transceive after its frame), or another frame
  * left meanwhile, the answer is missed, as a real chip would miss it: it is counted in answers_missed and traced.
  *
+ * Power modes. In StandBy and PowerDown, also while they are being left, no frame leaves, and an answer is missed. A frame that waits leaves at the
+ * first poll that begins once Control reads 0 for both. A read of Control is no poll, but passes its clocks as every access does: a loop that reads it
+ * until the bit is 0 ends.
+ *
  * Lost bytes. How many bytes the FIFO had no room for is not passed on by WriteIO, which returns nothing; hal_lost_sum has their sum.
  *
  * Refusals. No refusal of the library is dropped: a refused call goes to the hook `refused`, or, where there is none, is written to standard
@@ -101,7 +105,7 @@ struct hal {
     uint64_t answers_missed; /* how many answers came when the chip did not receive */
 
     /* To be set after hal_prepare, and at any time. */
-    uint32_t access_clocks;  /* of one access. With 0 only delays pass time, and a loop that waits for the timer by reads alone never ends */
+    uint32_t access_clocks;  /* of one access. With 0 only delays pass time, and a loop that waits for anything by reads alone never ends */
     hal_card card;           /* null: no card in the field */
     void *card_context;
     hal_refused refused;     /* null: the reason on standard error, and abort */

@@ -1,5 +1,5 @@
-//! A first firmware in Rust, step by step what examples/lock.c does: start, interrupts, key, checksum, a Transceive, and refused calls.
-use mfrc531::bits::interrupt_en;
+//! A first firmware in Rust, step by step what examples/lock.c does: start, interrupts, key, checksum, a Transceive, PowerDown, and refused calls.
+use mfrc531::bits::{control, interrupt_en};
 use mfrc531::{check_profile, shipped_image, Chip, Command, Edition, Refusal, Register, SHIPPED_PROFILE};
 
 fn send_bytes(chip: &mut Chip, bytes: &[u8]) -> Result<(), Refusal> {
@@ -46,6 +46,21 @@ fn transceive(chip: &mut Chip) -> Result<(), Refusal> {
     Ok(())
 }
 
+/// The battery is spared until the next card: registers, key and FIFO stay as they are. A 0 begins the leaving, and the bit reads 1 until its end.
+fn power_down(chip: &mut Chip) -> Result<(), Refusal> {
+    chip.write(Register::Control, control::POWER_DOWN)?;
+    chip.advance(13_560_000)?;
+    show(chip, "a second in PowerDown")?;
+    chip.write(Register::Control, 0)?;
+    let mut clocks = 0;
+    while chip.read(Register::Control)? & control::POWER_DOWN != 0 {
+        chip.advance(1)?;
+        clocks += 1;
+    }
+    println!("PowerDown left                     in {clocks} clocks");
+    Ok(())
+}
+
 fn main() -> Result<(), Box<dyn std::error::Error>> {
     check_profile(Edition::Mfrc531, &SHIPPED_PROFILE)?;
     let mut chip = Chip::start(&shipped_image())?;
@@ -68,6 +83,7 @@ fn main() -> Result<(), Box<dyn std::error::Error>> {
     chip.write(Register::Command, Command::Idle as u8)?;
 
     transceive(&mut chip)?;
+    power_down(&mut chip)?;
 
     println!("read at address 64                 {}", chip.read_at(64).unwrap_err());
     let mut memory = *chip.memory();

@@ -11,7 +11,8 @@ pub enum Refusal {
     AddressAbove63,
     /// 2: the image is not 512 bytes.
     ImageNot512Bytes,
-    /// 4: a take while the chip does not send or holds no byte, or a delivery while it does not receive.
+    /// 4: a take while the chip does not send or holds no byte, a delivery while it does not receive, or either in a
+    /// [`PowerMode`](crate::PowerMode), also while this is being left.
     NotSendingOrReceiving,
     /// 5: a delivery of no byte or of more than 64, with another number of parity values, a parity value above 1, or last bits above 7.
     FrameMalformed,
@@ -63,7 +64,7 @@ impl fmt::Display for Refusal {
         let why = match self {
             Refusal::AddressAbove63 => "the host address is above 63",
             Refusal::ImageNot512Bytes => "the image is not 512 bytes",
-            Refusal::NotSendingOrReceiving => "the chip does not send, holds no byte, or does not receive",
+            Refusal::NotSendingOrReceiving => "the chip does not send, holds no byte, does not receive, or is in a power mode",
             Refusal::FrameMalformed => "the received frame is malformed",
             Refusal::BufferUnder66Bytes => "the buffer is under 66 bytes",
             Refusal::ChipMalformed => "the memory is no chip's state",

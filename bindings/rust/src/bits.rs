@@ -39,7 +39,7 @@ pub mod primary_status {
 /// SecondaryStatus, 05h.
 pub mod secondary_status {
     pub const T_RUNNING: u8 = 0x80;
-    /// No programming runs.
+    /// No programming runs, and none stands still in a power mode.
     pub const E2_READY: u8 = 0x40;
     /// Always 1 on the bench.
     pub const CRC_READY: u8 = 0x20;
@@ -70,11 +70,12 @@ pub mod interrupt_rq {
     pub const LO_ALERT: u8 = 0x01;
 }
 
-/// Control, 09h.
+/// Control, 09h. Every write writes StandBy and PowerDown: [`PowerMode`](crate::PowerMode) says what a 1 and a 0 do. A 1 that is read while the
+/// mode is being left, and written back, keeps the mode.
 pub mod control {
-    /// Stored only.
+    /// Left in 4 clocks.
     pub const STAND_BY: u8 = 0x20;
-    /// Stored only.
+    /// Left in 512 clocks.
     pub const POWER_DOWN: u8 = 0x10;
     pub const T_STOP_NOW: u8 = 0x04;
     pub const T_START_NOW: u8 = 0x02;
@@ -206,7 +207,12 @@ mod tests {
         for byte in [0x20, 0x00, 0x55] {
             chip.write(Register::FifoData, byte)?;
         }
+        chip.advance(1_000_000)?; // which count for nothing
         assert_eq!(chip.read(Register::SecondaryStatus)? & secondary_status::E2_READY, 0);
+        chip.write(Register::Control, 0)?;
+        chip.advance(512 + 78_648)?;
+        assert_eq!(chip.read(Register::Control)?, 0);
+        assert_eq!(chip.read(Register::SecondaryStatus)? & secondary_status::E2_READY, secondary_status::E2_READY);
         Ok(())
     }
 

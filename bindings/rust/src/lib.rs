@@ -31,6 +31,7 @@ extern crate std;
 
 mod answers;
 mod names;
+mod power;
 mod profiles;
 mod shown;
 
@@ -39,6 +40,7 @@ pub mod memory;
 
 pub use answers::{Frame, Refusal};
 pub use names::{Command, Edition, ModemState, Register, UnknownCommand, UnknownEdition, UnknownModemState, UnknownRegister};
+pub use power::{PowerMode, POWER_DOWN_CLOCKS, STAND_BY_CLOCKS};
 pub use profiles::{
     check_profile, choose, shipped_image, shipped_image_of, Choice, ProfileRefusal, SHIPPED_PROFILE, SHIPPED_PROFILE_RC530,
 };
@@ -143,8 +145,8 @@ impl Chip {
         Answer(unsafe { mfrc531_write(&mut self.memory, address, byte) }).lost()
     }
 
-    /// Lets so many clocks of 13.56 MHz pass, for the timer and the EEPROM programming. Any number is taken, and costs no more than one clock does, but for
-    /// the programmings that end, of which there are at most six.
+    /// Lets so many clocks of 13.56 MHz pass, for the timer and the EEPROM programming, or in a [`PowerMode`] for its leaving alone. Any number is
+    /// taken, and costs no more than one clock does, but for the programmings that end, at most six, and the leavings, at most two.
     ///
     /// ```
     /// # use mfrc531::*;
@@ -162,7 +164,7 @@ impl Chip {
         Answer(unsafe { mfrc531_advance(&mut self.memory, clocks) }).done()
     }
 
-    /// Takes the frame that the chip sends into a buffer of at least 66 bytes. Later bytes of the buffer stay.
+    /// Takes the frame that the chip sends into a buffer of at least 66 bytes. Later bytes of the buffer stay. No frame is taken in a [`PowerMode`].
     ///
     /// ```
     /// # use mfrc531::*;
@@ -182,6 +184,7 @@ impl Chip {
     }
 
     /// Delivers a frame that the chip receives: its bytes, a parity value (0 or 1) for each, and how many bits of the last byte count (0: all).
+    /// No frame is delivered in a [`PowerMode`].
     ///
     /// Answers how many bytes were lost in the call, up to 64: those offered to the FIFO while it held 64. A checksum that the chip drops is not
     /// offered.

@@ -21,6 +21,16 @@ pub mod stage {
     pub const TRANSCEIVE_RECEIVING: u8 = 0x9E;
 }
 
+/// What [`ChipMemory::stand_by`] and [`ChipMemory::power_down`] are, each beside its bit of Control. 0: the mode is off, or waits for the end of the
+/// programming where the bit is 1. [`HOLD`](mode::HOLD): it has hold. With clocks to go besides: it is being left. Any other state is malformed.
+/// [`PowerMode`](crate::PowerMode) has them by name.
+pub mod mode {
+    /// The mode has hold.
+    pub const HOLD: u16 = 0x8000;
+    /// A mask: clocks until the mode is left, 0 where it is not being left.
+    pub const TO_GO: u16 = 0x7FFF;
+}
+
 /// A chip's whole state. Any values are a state of this type; which of them are a chip's is judged by each call.
 ///
 /// The reserved fields are for later requests: no call looks at them, and a start leaves them 0.
@@ -29,7 +39,8 @@ pub mod stage {
 pub struct ChipMemory {
     /// Clocks since the latest timer step; 0 while the timer stands.
     pub timer_phase: u32,
-    /// Clocks until WriteE2's programming ends. It programs exactly while this is above 0, and bit 6 of its stage means nothing then.
+    /// Clocks until WriteE2's programming ends, not counting those in power modes. There is a programming exactly while this is above 0, and bit 6 of
+    /// the stage means nothing then.
     pub programming_left: u32,
     /// The CRC register, before CRC3309 complements it.
     pub crc_register: u16,
@@ -38,10 +49,14 @@ pub struct ChipMemory {
     /// What [`Chip::lost_sum`](crate::Chip::lost_sum) answers. No value is malformed.
     pub lost_sum: u16,
     #[allow(missing_docs)]
-    pub reserved_numbers: [u16; 3],
+    pub reserved_number: u16,
+    /// StandBy, as [`mode`] has it.
+    pub stand_by: u16,
+    /// PowerDown, as [`mode`] has it.
+    pub power_down: u16,
     /// Page.
     pub page: u8,
-    /// Control, of which bits 5 and 4 are kept.
+    /// Control, of which bits 5 and 4 are kept, as they read.
     pub control: u8,
     /// 1 where the key buffer holds a key, else 0.
     pub key_loaded: u8,
@@ -96,7 +111,9 @@ impl ChipMemory {
             crc_register: 0,
             next_address: 0,
             lost_sum: 0,
-            reserved_numbers: [0; 3],
+            reserved_number: 0,
+            stand_by: 0,
+            power_down: 0,
             page: 0,
             control: 0,
             key_loaded: 0,
@@ -143,7 +160,8 @@ macro_rules! at {
 
 const _: () = {
     assert!(size_of::<ChipMemory>() == 676 && align_of::<ChipMemory>() == 4);
-    at!(timer_phase 0, programming_left 4, crc_register 8, next_address 10, lost_sum 12, reserved_numbers 14);
+    at!(timer_phase 0, programming_left 4, crc_register 8, next_address 10, lost_sum 12, reserved_number 14);
+    at!(stand_by 16, power_down 18);
     at!(page 20, control 21, key_loaded 22, rx_last_bits 23, interrupt_en 24, crc_mode 25, interrupt_rq 26, error_flag 27);
     at!(timer_running 28, timer_prescaler 29, latched 30, edition 31, stage 32, fifo_read 33, fifo_write 34, timer_value 35);
     at!(bit_framing 36, reserved_17 37, registers 44, slots 76, latch 140, key 156, eeprom 162);

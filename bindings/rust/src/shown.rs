@@ -1,7 +1,7 @@
 //! A chip as a person reads it.
 use crate::bits::{error_flag, interrupt_rq};
 use crate::memory::ChipMemory;
-use crate::{Chip, Command, Edition};
+use crate::{Chip, Command, Edition, PowerMode};
 use core::fmt;
 
 const REQUESTS: [(u8, &str); 6] = [
@@ -82,6 +82,18 @@ impl fmt::Debug for Stage<'_> {
     }
 }
 
+/// A power mode, or the number that makes it none.
+struct Mode(Option<PowerMode>, u16);
+
+impl fmt::Debug for Mode {
+    fn fmt(&self, f: &mut fmt::Formatter<'_>) -> fmt::Result {
+        match self.0 {
+            Some(mode) => write!(f, "{mode}"),
+            None => write!(f, "number {:04X}, malformed", self.1),
+        }
+    }
+}
+
 struct Timer<'a>(&'a ChipMemory);
 
 impl fmt::Debug for Timer<'_> {
@@ -109,6 +121,8 @@ impl fmt::Debug for Chip {
         shown.field("Lost", &memory.lost_sum);
         shown.field("InterruptEn", &Flags(memory.interrupt_en, &REQUESTS));
         shown.field("InterruptRq", &Flags(memory.interrupt_rq, &REQUESTS));
+        shown.field("StandBy", &Mode(self.stand_by_mode(), memory.stand_by));
+        shown.field("PowerDown", &Mode(self.power_down_mode(), memory.power_down));
         shown.field("ErrorFlag", &Flags(memory.error_flag, &ERRORS));
         shown.field("Timer", &Timer(memory));
         shown.field("CRC", &format_args!("{:04X}", memory.crc_register));
@@ -132,7 +146,7 @@ mod tests {
     fn a_chip_shows_what_firmware_looks_at() -> Result<(), Refusal> {
         let mut chip = Chip::start(&shipped_image())?;
         let started = "Chip { Edition: MFRC531, Page: 80, Command: Idle, FIFO: [], Lost: 0, InterruptEn: [], \
-                       InterruptRq: [], ErrorFlag: [KeyErr], Timer: 0, stands, CRC: 0000, Key: none, BitFraming: 00, \
+                       InterruptRq: [], StandBy: off, PowerDown: off, ErrorFlag: [KeyErr], Timer: 0, stands, CRC: 0000, Key: none, BitFraming: 00, \
                        Registers10hTo2Fh: [00 58 3F 3F 19 13 3F 3B 00 73 08 AD FF 1E 41 00 \
                        00 06 03 63 63 00 00 00 00 08 07 06 0A 02 00 00], .. }";
         assert_eq!(format!("{chip:?}"), started);
@@ -151,6 +165,11 @@ mod tests {
             chip.write(Register::FifoData, byte)?;
         }
         assert!(format!("{chip:?}").contains("Command: WriteE2, programs for 78648 clocks more"), "{chip:?}");
+        chip.write(Register::Control, 0x20)?;
+        assert!(format!("{chip:?}").contains("StandBy: waits for the programming, PowerDown: off, "), "{chip:?}");
+        chip.advance(78_648)?;
+        chip.write(Register::Control, 0x10)?;
+        assert!(format!("{chip:?}").contains("StandBy: being left, 4 clocks to go, PowerDown: in hold, "), "{chip:?}");
         let chip = Chip::start(&shipped_image_of(Edition::Rc530))?;
         assert!(format!("{chip:?}").starts_with("Chip { Edition: MF RC530, Page: 80, "), "{chip:?}");
         Ok(())
@@ -164,9 +183,12 @@ mod tests {
         memory.error_flag = 0xFF;
         memory.edition = 2;
         memory.lost_sum = 65535;
+        memory.stand_by = 0x0001;
+        memory.power_down = 0x8000;
         let shown = format!("{:?}", Chip::from_memory(memory));
         assert!(shown.starts_with("Chip { Edition: number 2 with [00 00 00 00], malformed, Page: 00, "), "{shown}");
         assert!(shown.contains("Command: stage 3E, malformed, FIFO: 65 bytes, malformed, Lost: 65535, "), "{shown}");
+        assert!(shown.contains("StandBy: number 0001, malformed, PowerDown: number 8000, malformed, "), "{shown}");
         assert!(shown.contains("ErrorFlag: [KeyErr AccessErr FIFOOvfl CRCErr ParityErr 85]"), "{shown}");
         for stage in 0..=255u8 {
             (memory.stage, memory.fifo_write, memory.fifo_read) = (stage, stage, stage.wrapping_mul(7));

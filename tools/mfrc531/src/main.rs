@@ -45,8 +45,9 @@ profile   For each file ('-' is standard input) a line, the one that profile_che
 shell     Drives a chip by lines from a terminal, a pipe or a file: starts, host reads and writes, clocks, frames. It begins with an
           MFRC531 started from the shipped image. Exit status: 0, or 2 at the first line that cannot be done (a terminal goes on).
           --vcd writes IRq and ModemState (of PrimaryStatus), E2Ready, TRunning, the FIFO's held count, the sum of lost bytes, the
-          timer's value and the command as a waveform, for GTKWave. Its time scale is 1 ps, since no scale divides the clock of
-          13.56 MHz: clock n stands at n * 25000000 / 339 ps, rounded. Calls at one clock stand 1 ps apart, in their order.
+          timer's value, the command, StandBy and PowerDown (0 off, 1 waits for the programming, 2 in hold, 3 being left) as a
+          waveform, for GTKWave. Its time scale is 1 ps, since no scale divides the clock of 13.56 MHz: clock n stands at
+          n * 25000000 / 339 ps, rounded. Calls at one clock stand 1 ps apart, in their order.
 
 What can be typed in the shell:
 

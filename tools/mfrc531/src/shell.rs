@@ -5,7 +5,7 @@ use crate::registers::{asked_in_words, command_named, digits, edition_named, in_
 use crate::waveform::{clocks_to_change, timer_steps, Waveform};
 use crate::Ended;
 use mfrc531::bits::{channel_redundancy, page};
-use mfrc531::{shipped_image, shipped_image_of, Chip, Edition, Refusal, Register};
+use mfrc531::{shipped_image, shipped_image_of, Chip, Edition, PowerMode, Refusal, Register};
 use std::collections::VecDeque;
 use std::ffi::OsString;
 use std::fs::File;
@@ -31,7 +31,8 @@ deliver BYTES.. [parity VALUES..] [bits N]
                             a frame that the chip receives; parity: 0 or 1 for each byte, without it those that ChannelRedundancy asks;
                             bits: how many of the last byte count, 0 for all. The lists' form, BYTES PARITIES N, is taken too
 lost                        how many bytes were lost since the latest flush or start; changes nothing
-status                      the registers of pages 0 and 1, in words, the FIFO and the bytes lost; changes nothing
+status                      the registers of pages 0 and 1, in words, the FIFO, the bytes lost, how far StandBy and PowerDown are, and a
+                            programming, if there is one; changes nothing
 history                     the calls so far, with their answers
 help, quit
 
@@ -230,9 +231,9 @@ impl Bench<'_> {
         }
     }
 
-    /// A call: prints it with its answer and what has changed in the registers of pages 0 and 1, and keeps it in the history.
+    /// A call: prints it with its answer and what has changed in the registers of pages 0 and 1 and in the power modes, and keeps it in the history.
     fn call(&mut self, call: &str, event: impl FnOnce(&mut Bench<'_>) -> Result<Result<String, Refusal>, Stop>) -> Result<(), Stop> {
-        let before = registers_seen(&self.chip);
+        let (before, modes_before) = (registers_seen(&self.chip), modes_seen(&self.chip));
         let answer = event(self)?.unwrap_or_else(|refusal| refusal.to_string());
         let after = registers_seen(&self.chip);
         self.sample()?;
@@ -240,6 +241,9 @@ impl Bench<'_> {
         self.output.line(&text);
         for ((register, old), (_, new)) in before.iter().zip(&after).filter(|(before, after)| before != after) {
             self.output.line(&format!("    {register} {old:02X}h -> {new:02X}h{}", behind_comma(&in_words(*register, *new))));
+        }
+        for ((name, old), (_, new)) in modes_before.iter().zip(modes_seen(&self.chip)).filter(|((_, old), (_, new))| old != new) {
+            self.output.line(&format!("    {name} {} -> {}", mode_in_words(*old), mode_in_words(new)));
         }
         self.calls += 1;
         if self.history.len() == MOST_IN_HISTORY {
@@ -413,8 +417,14 @@ impl Bench<'_> {
         let held: Vec<u8> = memory.held_bytes().collect();
         self.output.line(format!("{:<16} {}", "FIFO", if held.is_empty() { "empty".to_string() } else { digits(&held) }).trim_end());
         self.output.line(&format!("{:<16} {}", "lost", lost_in_words(&self.chip)));
+        let modes = modes_seen(&self.chip);
+        for (name, mode) in modes {
+            self.output.line(&format!("{name:<16} {}", mode_in_words(mode)));
+        }
         if memory.programming_left > 0 {
-            self.output.line(&format!("{:<16} {} clocks more", "programming", memory.programming_left));
+            let still = modes.iter().any(|(_, mode)| matches!(mode, Some(PowerMode::Hold | PowerMode::Leaving(_))));
+            let told = if still { ", stands still" } else { "" };
+            self.output.line(&format!("{:<16} {} clocks more{told}", "programming", memory.programming_left));
         }
         Ok(())
     }
@@ -439,6 +449,15 @@ fn registers_seen(chip: &Chip) -> Vec<(Register, u8)> {
     let page = chip.memory().page;
     let shown = Register::ALL.iter().filter(|&&register| (register as u8) < 0x10 && register != Register::FifoData);
     shown.map(|&register| (register, if register == Register::Page { page } else { copy.read(register).unwrap_or(0) })).collect()
+}
+
+/// The power modes.
+fn modes_seen(chip: &Chip) -> [(&'static str, Option<PowerMode>); 2] {
+    [("StandBy", chip.stand_by_mode()), ("PowerDown", chip.power_down_mode())]
+}
+
+fn mode_in_words(mode: Option<PowerMode>) -> String {
+    mode.map_or("malformed".to_string(), |mode| mode.to_string())
 }
 
 /// Words behind a comma, if there are any.

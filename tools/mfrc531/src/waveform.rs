@@ -2,7 +2,7 @@
 use crate::registers::linear_copy;
 use mfrc531::bits::primary_status::{MODEM_STATE, MODEM_STATE_SHIFT};
 use mfrc531::bits::timer_clock::T_AUTO_RESTART;
-use mfrc531::{Chip, Register};
+use mfrc531::{Chip, PowerMode, Register};
 use std::fs::File;
 use std::io::{self, BufWriter, Write};
 use std::path::Path;
@@ -14,7 +14,7 @@ struct Seen {
 }
 
 /// Name, number of bits, and identifier in the file.
-const SIGNALS: [(&str, usize, char); 8] = [
+const SIGNALS: [(&str, usize, char); 10] = [
     ("IRq", 1, 'i'),
     ("E2Ready", 1, 'e'),
     ("TRunning", 1, 't'),
@@ -23,6 +23,8 @@ const SIGNALS: [(&str, usize, char); 8] = [
     ("command", 6, 'c'),
     ("ModemState", 3, 'm'),
     ("lost_sum", 16, 'l'),
+    ("StandBy", 2, 's'),
+    ("PowerDown", 2, 'p'),
 ];
 
 impl Seen {
@@ -38,6 +40,8 @@ impl Seen {
                 (memory.stage & 0x3F).into(),
                 modem_state(chip).into(),
                 memory.lost_sum,
+                power_mode(chip.stand_by_mode()),
+                power_mode(chip.power_down_mode()),
             ],
         }
     }
@@ -49,12 +53,50 @@ fn modem_state(chip: &Chip) -> u8 {
     (status & MODEM_STATE) >> MODEM_STATE_SHIFT
 }
 
-/// Clocks up to which no signal changes: those of the timer's step and of the programming, whichever ends first.
+/// A power mode in two bits.
+fn power_mode(mode: Option<PowerMode>) -> u16 {
+    match mode {
+        None | Some(PowerMode::Off) => 0,
+        Some(PowerMode::Waiting) => 1,
+        Some(PowerMode::Hold) => 2,
+        Some(PowerMode::Leaving(_)) => 3,
+    }
+}
+
+fn power_modes(chip: &Chip) -> impl Iterator<Item = PowerMode> {
+    [chip.stand_by_mode(), chip.power_down_mode()].into_iter().flatten()
+}
+
+/// Clocks up to which no signal changes: those of the timer's step and of the programming, whichever ends first; while a power mode has hold, those
+/// of the leaving that ends first. A mode that waits takes hold where the programming ends.
 pub fn clocks_to_change(chip: &Chip) -> u32 {
     let memory = chip.memory();
+    let held = power_modes(chip).filter_map(|mode| match mode {
+        PowerMode::Off | PowerMode::Waiting => None,
+        PowerMode::Hold => Some(u32::MAX),
+        PowerMode::Leaving(clocks) => Some(clocks.into()),
+    });
+    if let Some(left) = held.min() {
+        return left;
+    }
     let step = if memory.timer_running == 0 { u32::MAX } else { (1 << memory.timer_prescaler) - memory.timer_phase };
     let programming = if memory.programming_left == 0 { u32::MAX } else { memory.programming_left };
     step.min(programming)
+}
+
+/// Of so many clocks, those that reach the timer: none while a power mode has hold, so only those after the leavings; and where a mode waits, those up
+/// to the programming's end.
+fn reaching(chip: &Chip, clocks: u32) -> u32 {
+    let (mut before, mut most) = (0, u32::MAX);
+    for mode in power_modes(chip) {
+        match mode {
+            PowerMode::Off => {}
+            PowerMode::Waiting => most = chip.memory().programming_left,
+            PowerMode::Hold => return 0,
+            PowerMode::Leaving(left) => before = before.max(left.into()),
+        }
+    }
+    clocks.saturating_sub(before).min(most)
 }
 
 /// Timer steps that so many clocks make.
@@ -63,7 +105,7 @@ pub fn timer_steps(chip: &Chip, clocks: u32) -> u64 {
     if memory.timer_running == 0 {
         return 0;
     }
-    let steps = (u64::from(memory.timer_phase) + u64::from(clocks)) >> memory.timer_prescaler;
+    let steps = (u64::from(memory.timer_phase) + u64::from(reaching(chip, clocks))) >> memory.timer_prescaler;
     let (timer_clock, reload) = (memory.registers[0x2A - 0x10], memory.registers[0x2C - 0x10]);
     if timer_clock & T_AUTO_RESTART != 0 && reload != 0 {
         steps
@@ -95,6 +137,7 @@ impl Waveform {
         )?;
         writeln!(file, "  Calls at one clock stand 1 ps apart, in their order. IRq, ModemState: of PrimaryStatus. held: bytes in the FIFO. command: the code in Command.")?;
         writeln!(file, "  lost_sum: bytes lost since the latest flush or start, at most 65535.")?;
+        writeln!(file, "  StandBy, PowerDown: 0 off, 1 waits for the programming, 2 in hold, 3 being left.")?;
         writeln!(file, "$end")?;
         writeln!(file, "$timescale 1 ps $end")?;
         writeln!(file, "$scope module mfrc531 $end")?;

@@ -98,6 +98,17 @@ static void pass_most_clocks(void)
         done(mfrc531_advance(&chip, MFRC531_MOST_CLOCKS));
 }
 
+/* From the beginning of a leaving of StandBy over its end, by one clock that counts again. It is begun in the chip's fields, so that no other call is
+ * counted. */
+static void pass_leavings(void)
+{
+    for (int i = 0; i < 1000; i++) {
+        chip.control = MFRC531_STAND_BY;
+        chip.stand_by = MFRC531_MODE_HOLD | MFRC531_STAND_BY_CLOCKS;
+        done(mfrc531_advance(&chip, MFRC531_STAND_BY_CLOCKS + 1));
+    }
+}
+
 /* What a driver does for a command, as in the race of tests/differential. */
 static void drive(void)
 {
@@ -178,6 +189,12 @@ static void run_timer(void)
     put(MFRC531_REG_CONTROL, MFRC531_T_START_NOW);
 }
 
+static void run_timer_in_power_down(void)
+{
+    run_timer();
+    put(MFRC531_REG_CONTROL, MFRC531_POWER_DOWN | MFRC531_T_START_NOW);
+}
+
 static void run_to_ends(void)
 {
     put(MFRC531_REG_TIMER_RELOAD, 1);
@@ -201,6 +218,8 @@ static const struct { const char *kind; void (*prepare)(void), (*round)(void); }
     {"advance-1000", run_timer, pass_thousands},
     {"advance-end", run_to_ends, pass_single_clocks},
     {"advance-most", run_to_ends, pass_most_clocks},
+    {"advance-held", run_timer_in_power_down, pass_single_clocks},
+    {"advance-left", run_timer, pass_leavings},
 };
 
 int main(int count, char **words)

@@ -4,11 +4,11 @@
 
 use crate::answer;
 use crate::call::{Call, Fill, Image};
-use crate::chip_memory::{field, plain_of, Memory, ARRAYS, SIZE};
+use crate::chip_memory::{field, number_of, plain_of, Memory, ARRAYS, HOLD, NOT_HELD, NO_BIT, NO_HOLD, OVER_COUNT, SIZE};
 use crate::library;
-use crate::plain::{error, Edition, PROGRAMMING_CLOCKS};
+use crate::plain::{error, power, Edition, FaultyChip, Mode, PROGRAMMING_CLOCKS};
 use crate::random::Random;
-use crate::registers::{COMMAND, CONTROL, FIFO_DATA, PRIMARY_STATUS};
+use crate::registers::{COMMAND, CONTROL, FIFO_DATA, PRIMARY_STATUS, SECONDARY_STATUS};
 use crate::session::Session;
 use std::ops::AddAssign;
 
@@ -32,6 +32,41 @@ pub const SUMS: [u16; 5] = [0, 1, 65_410, 65_534, 65_535];
 fn sums(random: &mut Random) -> impl Iterator<Item = u16> {
     SUMS.into_iter().chain([random.number() as u16])
 }
+
+/// Numbers of a power mode: without hold and with it, each with no clock of a leaving to go, about as many as StandBy and PowerDown take, and what
+/// fewer bits would take for such.
+pub const NUMBERS: [u16; 30] = [
+    0,
+    1,
+    2,
+    3,
+    4,
+    5,
+    255,
+    256,
+    511,
+    512,
+    513,
+    516,
+    0x1000,
+    0x4004,
+    0x7FFF,
+    HOLD,
+    HOLD + 1,
+    HOLD + 2,
+    HOLD + 3,
+    HOLD + 4,
+    HOLD + 5,
+    HOLD + 255,
+    HOLD + 256,
+    HOLD + 511,
+    HOLD + 512,
+    HOLD + 513,
+    HOLD + 516,
+    HOLD + 0x1000,
+    HOLD + 0x4004,
+    0xFFFF,
+];
 
 /// Latched counts: what fits a block, one more, and what eight bits or a remainder would take for such.
 fn latched() -> impl Iterator<Item = u8> {
@@ -73,6 +108,20 @@ fn with_sum(base: &Memory, sum: u16, overflow: bool) -> Memory {
     chip.lost_sum = sum;
     chip.error_flag = chip.error_flag & !error::OVERFLOW | if overflow { error::OVERFLOW } else { 0 };
     memory
+}
+
+/// Control and the numbers of the two power modes.
+fn with_numbers(base: &Memory, control: u8, [stand_by, power_down]: [u16; 2]) -> Memory {
+    let mut memory = *base;
+    let chip = memory.chip_mut();
+    (chip.control, chip.stand_by, chip.power_down) = (control, stand_by, power_down);
+    memory
+}
+
+/// The two power modes.
+pub fn with_modes(base: &Memory, modes: [Mode; 2]) -> Memory {
+    let bits = modes.iter().zip(power::BITS).filter(|(mode, _)| **mode != Mode::Off).map(|(_, bit)| bit).sum();
+    with_numbers(base, bits, modes.map(number_of))
 }
 
 // ---- The edition -----------------------------------------------------------------------------------------------------------------------
@@ -153,12 +202,16 @@ fn with_edition(base: &Memory, number: u8, type_bytes: [u8; 4]) -> Memory {
 
 // ---- The judging -----------------------------------------------------------------------------------------------------------------------
 
-/// How many states were judged, and of those: how many have a sum of lost bytes above 0, and how many have FIFOOvfl clear beside one, or set beside 0.
+/// How many states were judged, and of those: how many have a sum of lost bytes above 0, and how many have FIFOOvfl clear beside one, or set beside 0;
+/// how many are well formed with a power mode that is not off, and how many of those no list of calls leads to; how many are malformed by a mode.
 #[derive(Clone, Copy, Default)]
 pub struct States {
     pub all: u64,
     pub summed: u64,
     pub apart: u64,
+    pub in_modes: u64,
+    pub begun: u64,
+    pub by_modes: u64,
 }
 
 impl AddAssign for States {
@@ -166,6 +219,9 @@ impl AddAssign for States {
         self.all += other.all;
         self.summed += other.summed;
         self.apart += other.apart;
+        self.in_modes += other.in_modes;
+        self.begun += other.begun;
+        self.by_modes += other.by_modes;
     }
 }
 
@@ -180,10 +236,8 @@ impl<const FAULT: u8> Judge<FAULT> {
     /// Calls that are refused on any chip, with 7 where it is malformed, an advance by no clock, which leaves every chip, and the call for the sum of
     /// lost bytes; then a poll.
     fn judge(&mut self, mut memory: Memory) -> Result<(), String> {
-        let summed = memory.chip().lost_sum > 0;
-        let overflow = memory.chip().error_flag & error::OVERFLOW != 0;
-        self.states += States { all: 1, summed: u64::from(summed), apart: u64::from(summed != overflow) };
         let plain = plain_of::<FAULT>(memory.chip());
+        self.count(&memory, plain.as_ref());
         let sum = plain.as_ref().map_or(0, |plain| answer::of_sum(plain.lost_sum()));
         let before = memory;
         let chip = memory.as_mut_ptr();
@@ -219,6 +273,22 @@ impl<const FAULT: u8> Judge<FAULT> {
         Ok(())
     }
 
+    fn count(&mut self, memory: &Memory, plain: Result<&FaultyChip<FAULT>, &&'static str>) {
+        let summed = memory.chip().lost_sum > 0;
+        let overflow = memory.chip().error_flag & error::OVERFLOW != 0;
+        let in_modes = plain.is_ok_and(|plain| plain.control() != 0);
+        let begun = plain.is_ok_and(|plain| plain.stands_begun());
+        let by_modes = plain.is_err_and(|reason| [NOT_HELD, NO_BIT, NO_HOLD, OVER_COUNT].contains(reason));
+        self.states += States {
+            all: 1,
+            summed: u64::from(summed),
+            apart: u64::from(summed != overflow),
+            in_modes: u64::from(in_modes),
+            begun: u64::from(begun),
+            by_modes: u64::from(by_modes),
+        };
+    }
+
     /// The state as lines of a list.
     fn line(&self, memory: &Memory) -> String {
         let differs = |place: &usize| memory.0[*place] != self.base.0[*place];
@@ -233,7 +303,47 @@ pub fn judged<const FAULT: u8>(seed: u64) -> Result<States, String> {
     for edition in Edition::BOTH {
         states += judged_of::<FAULT>(edition, seed)?;
     }
+    states += judged_in_modes::<FAULT>()?;
     Ok(states)
+}
+
+/// Refusal 7 on the states that are built for the power modes.
+pub fn judged_in_modes<const FAULT: u8>() -> Result<States, String> {
+    let mut states = States::default();
+    for edition in Edition::BOTH {
+        states += judged_modes_of::<FAULT>(edition)?;
+    }
+    Ok(states)
+}
+
+fn judged_modes_of<const FAULT: u8>(edition: Edition) -> Result<States, String> {
+    let base = started(edition);
+    let mut judge = Judge::<FAULT> { edition, base, states: States::default() };
+    let chips = some_chips(&base);
+    // Both bits of Control, and others that read 0, with numbers of both modes on chips that program, more or less of it behind them, and on such that
+    // do not.
+    let programming = [1, 77_000, PROGRAMMING_CLOCKS - 1, PROGRAMMING_CLOCKS].map(|left| with(&base, 0x41, 5, left, 0x025, 60, 20));
+    for chip in chips.iter().chain(&programming) {
+        for control in [0x00, 0x10, 0x20, 0x30, 0x01, 0x22, 0x34, 0x78, 0xB0] {
+            for stand_by in NUMBERS {
+                for power_down in NUMBERS {
+                    judge.judge(with_numbers(chip, control, [stand_by, power_down]))?;
+                }
+            }
+        }
+    }
+    // Every number of one of them, the other one off or in hold.
+    for chip in [&chips[0], &chips[2]] {
+        for number in 0..=u16::MAX {
+            for (control, other) in [(0x00, 0), (0x30, HOLD)] {
+                judge.judge(with_numbers(chip, control | 0x20, [number, other]))?;
+                judge.judge(with_numbers(chip, control & 0x10, [number, other]))?;
+                judge.judge(with_numbers(chip, control | 0x10, [other, number]))?;
+                judge.judge(with_numbers(chip, control & 0x20, [other, number]))?;
+            }
+        }
+    }
+    Ok(judge.states)
 }
 
 fn judged_of<const FAULT: u8>(edition: Edition, seed: u64) -> Result<States, String> {
@@ -409,9 +519,18 @@ fn some_chips(base: &Memory) -> Vec<Memory> {
 }
 
 /// Calls on both chips, from states of both editions that are well formed: WriteE2 with and without a batch, latched counts that other commands
-/// have left, and sums of lost bytes. Answers how many calls those were.
+/// have left, sums of lost bytes, and power modes. Answers how many calls those were.
 pub fn worked<const FAULT: u8>() -> Result<u64, String> {
-    Edition::BOTH.into_iter().try_fold(0, |count, edition| Ok(count + batches::<FAULT>(edition)? + losses::<FAULT>(edition)?))
+    let mut count = 0;
+    for edition in Edition::BOTH {
+        count += batches::<FAULT>(edition)? + losses::<FAULT>(edition)?;
+    }
+    Ok(count + worked_in_modes::<FAULT>()?)
+}
+
+/// Those on power modes alone.
+pub fn worked_in_modes<const FAULT: u8>() -> Result<u64, String> {
+    Edition::BOTH.into_iter().try_fold(0, |count, edition| Ok(count + modes::<FAULT>(edition)?))
 }
 
 /// Each of the calls, from the state, if it is well formed. Answers how many calls those were.
@@ -512,4 +631,85 @@ fn losses<const FAULT: u8>(edition: Edition) -> Result<u64, String> {
         }
     }
     Ok(count)
+}
+
+/// Every kind of call, accepted and refused, in every two states of the power modes, over programmings of which all clocks are left or fewer, and over
+/// none, with a timer at rest, running, and at its end.
+fn modes<const FAULT: u8>(edition: Edition) -> Result<u64, String> {
+    let base = started(edition);
+    let calls = mode_calls(edition);
+    let stand_by = [1, 2, 3, 4].map(|to_go| Mode::Leaving { to_go });
+    let power_down = [1, 3, 4, 5, 511, 512].map(|to_go| Mode::Leaving { to_go });
+    let resting = [Mode::Off, Mode::Waiting, Mode::Held];
+    let mut count = 0;
+    for chip in mode_chips(&base) {
+        for stand_by in resting.iter().chain(&stand_by) {
+            for power_down in resting.iter().chain(&power_down) {
+                count += made::<FAULT>(edition, base, &with_modes(&chip, [*stand_by, *power_down]), &calls)?;
+            }
+        }
+    }
+    Ok(count)
+}
+
+fn mode_calls(edition: Edition) -> Vec<Call> {
+    let other = Edition::BOTH[1 - edition as usize];
+    let deliver = |length| Call::Deliver { bytes: vec![0x26; length], parities: vec![0; length], last_bits: 0 };
+    let most = PROGRAMMING_CLOCKS;
+    let clocks = [0, 1, 2, 3, 4, 5, 6, 510, 511, 512, 513, 514, 600, most, most + 4, most + 512, 2 * most + 513, u32::MAX];
+    let mut calls = vec![
+        Call::Start { image: image(other) },
+        Call::Start { image: Image { length: 511, ..image(other) } },
+        Call::Read { address: CONTROL },
+        Call::Read { address: SECONDARY_STATUS },
+        Call::Read { address: FIFO_DATA },
+        Call::Read { address: 64 },
+        Call::Write { address: FIFO_DATA, byte: 0x55 },
+        Call::Write { address: COMMAND, byte: 0x00 },
+        Call::Write { address: COMMAND, byte: 0x01 },
+        Call::Write { address: COMMAND, byte: 0x12 },
+        Call::Write { address: COMMAND, byte: 0x1E },
+        Call::Write { address: COMMAND, byte: 0x3F },
+        Call::Write { address: 64, byte: 0x30 },
+        Call::Take { length: 66, fill: 0 },
+        Call::Take { length: 65, fill: 0 },
+        deliver(0),
+        deliver(3),
+    ];
+    calls.extend(clocks.map(|clocks| Call::Advance { clocks }));
+    // All of bits 5, 4, 2, 1 and 0; the others of a write count for nothing.
+    calls.extend((0..0x40).filter(|byte| byte & 0x08 == 0).map(|byte| Call::Write { address: CONTROL, byte }));
+    calls.push(Call::Write { address: CONTROL, byte: 0xC8 });
+    calls
+}
+
+fn mode_chips(base: &Memory) -> Vec<Memory> {
+    let mut chips = vec![
+        with(base, 0x00, 0, 0, 0x000, 5, 0),
+        with(base, 0x12, 0, 0, 0x000, 5, 0),
+        with(base, 0x01, 0, 0, 0x000, 5, 1),
+        with(base, 0x41, 0, 0, 0x02F, 5, 0),
+        with(base, 0x41, 0, 0, 0x000, 5, 0),
+        with(base, 0x5A, 0, 0, 0x000, 5, 0),
+        with(base, 0x5A, 0, 0, 0x000, 5, 3),
+        with(base, 0x5E, 0, 0, 0x000, 5, 64),
+        with(base, 0x96, 0, 0, 0x000, 5, 0),
+        with(base, 0x9E, 0, 0, 0x000, 5, 63),
+        // A programming: its last one, with one behind it, with two, and with bytes that meet block 0.
+        with(base, 0x41, 3, PROGRAMMING_CLOCKS, 0x033, 5, 0),
+        with(base, 0x01, 3, PROGRAMMING_CLOCKS, 0x033, 5, 13),
+        with(base, 0x41, 3, 1, 0x033, 5, 14),
+        with(base, 0x41, 3, 2, 0x033, 5, 0),
+        with(base, 0x41, 3, 5, 0x000, 5, 1),
+        with(base, 0x41, 3, 512, 0x033, 5, 1),
+        with(base, 0x41, 3, PROGRAMMING_CLOCKS - 1, 0x033, 5, 64),
+    ];
+    // No timer, one that runs, and one that ends with each clock.
+    for (place, memory) in chips.iter_mut().enumerate() {
+        let chip = memory.chip_mut();
+        let (clock, reload, value) = [(0x00, 0x00, 0), (0x00, 0xFF, 0xFF), (0x20, 0x01, 1)][place % 3];
+        (chip.registers[0x2A - 0x10], chip.registers[0x2C - 0x10]) = (clock, reload);
+        (chip.timer_running, chip.timer_value) = (u8::from(value > 0), value);
+    }
+    chips
 }

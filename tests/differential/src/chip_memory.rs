@@ -1,7 +1,9 @@
 //! The library's chip as it lies in memory (`include/mfrc531.h`): its layout, which memory is no chip's state (refusal 7), the plain chip of
 //! a memory, and the comparison of the two.
 
-use crate::plain::{error, fault, request, Checksum, Command, Edition, FaultyChip, Fifo, Run, Timer, Writing, PROGRAMMING_CLOCKS};
+use crate::plain::{
+    error, fault, power, request, Checksum, Command, Edition, FaultyChip, Fifo, Mode, Run, Timer, Writing, PROGRAMMING_CLOCKS,
+};
 use std::mem::{align_of, offset_of, size_of};
 
 /// The chip in memory, and its fields by name, with the place and the length of each. The places are asserted.
@@ -28,7 +30,9 @@ layout! {
     8 crc_register: u16,
     10 next_address: u16,
     12 lost_sum: u16,
-    14 reserved_numbers: [u16; 3],
+    14 reserved_number: u16,
+    16 stand_by: u16,
+    18 power_down: u16,
     20 page: u8,
     21 control: u8,
     22 key_loaded: u8,
@@ -168,6 +172,58 @@ fn batch_waits(next: u16, latched: u8) -> bool {
     first == last && first >= 1
 }
 
+/// A mode's number: bit 15 is set in hold, and below it stand the clocks that a leaving has to go.
+pub const HOLD: u16 = 0x8000;
+const TO_GO: u16 = HOLD - 1;
+
+/// Why a chip is malformed by a power mode.
+pub const NOT_HELD: &str = "a power bit without hold, and without a programming for which it could wait";
+pub const NO_BIT: &str = "a hold whose power bit is 0";
+pub const NO_HOLD: &str = "clocks of a leaving to go without hold";
+pub const OVER_COUNT: &str = "a leaving with more clocks to go than it takes";
+
+/// A power mode by its bit of Control and its number.
+fn mode_of<const FAULT: u8>(place: usize, chip: &ChipMemory) -> Result<Mode, &'static str> {
+    let bit = chip.control & power::BITS[place] != 0;
+    let number = [chip.stand_by, chip.power_down][place];
+    let (hold, to_go) = (number & HOLD != 0, number & TO_GO);
+    let programs = chip.programming_left > 0;
+    let most = match FAULT {
+        fault::ONE_CLOCK_TOO_MANY_IS_WELL_FORMED => power::LEAVING[place] + 1,
+        fault::WHOLE_LEAVING_IS_MALFORMED => power::LEAVING[place] - 1,
+        fault::STAND_BY_JUDGED_BY_512 => 512,
+        _ => power::LEAVING[place],
+    };
+    let waits = match FAULT {
+        fault::WAITING_ALONE_IS_WELL_FORMED => true,
+        fault::WAITING_BESIDE_WRITE_E2_IS_WELL_FORMED => chip.stage & 0x3F == 0x01,
+        fault::WAITING_IS_MALFORMED => false,
+        _ => programs,
+    };
+    judge(!bit || hold || waits, NOT_HELD)?;
+    judge(!hold || bit || FAULT == fault::HOLD_WITHOUT_A_BIT_IS_WELL_FORMED, NO_BIT)?;
+    judge(to_go == 0 || hold || FAULT == fault::LEAVING_WITHOUT_A_HOLD_IS_WELL_FORMED, NO_HOLD)?;
+    judge(to_go <= most, OVER_COUNT)?;
+    if FAULT == fault::HOLD_OVER_A_BEGUN_PROGRAMMING_IS_MALFORMED {
+        judge(!hold || !programs || chip.programming_left == PROGRAMMING_CLOCKS, "a hold over a programming that has begun")?;
+    }
+    Ok(match (bit, hold, to_go) {
+        (true, true, 0) => Mode::Held,
+        (true, true, to_go) => Mode::Leaving { to_go },
+        (true, false, _) => Mode::Waiting,
+        (false, ..) => Mode::Off,
+    })
+}
+
+/// The number of a mode.
+pub fn number_of(mode: Mode) -> u16 {
+    match mode {
+        Mode::Off | Mode::Waiting => 0,
+        Mode::Held => HOLD,
+        Mode::Leaving { to_go } => HOLD | to_go,
+    }
+}
+
 /// Why a chip is malformed by its edition: the number is none's, or the type bytes are not those of the edition.
 pub const NO_EDITION: &str = "no edition has this number";
 pub const OTHER_TYPE: &str = "the EEPROM's first four bytes are not the edition's";
@@ -234,6 +290,8 @@ pub fn plain_of<const FAULT: u8>(chip: &ChipMemory) -> Result<FaultyChip<FAULT>,
     let loaded = flag(chip.key_loaded, "key_loaded is no flag")?;
     judge(FAULT != fault::RESERVED_IS_JUDGED || reserved_is_zero(chip), "a reserved field that is not 0")?;
 
+    let modes = [mode_of::<FAULT>(power::STAND_BY, chip)?, mode_of::<FAULT>(power::POWER_DOWN, chip)?];
+
     // The last, so that where these are the reason there is no other.
     let number = if FAULT == fault::EDITION_ABOVE_1_IS_WELL_FORMED { chip.edition & 1 } else { chip.edition };
     let edition = Edition::of_number(number).ok_or(NO_EDITION)?;
@@ -256,7 +314,8 @@ pub fn plain_of<const FAULT: u8>(chip: &ChipMemory) -> Result<FaultyChip<FAULT>,
         requests: chip.interrupt_rq,
         errors: chip.error_flag,
         lost_sum: chip.lost_sum,
-        control: chip.control,
+        modes,
+        halted: [0; 2],
         rx_last_bits: chip.rx_last_bits,
         bit_framing: chip.bit_framing,
         key: loaded.then_some(chip.key),
@@ -275,7 +334,7 @@ fn judge(holds: bool, else_reason: &'static str) -> Result<(), &'static str> {
 
 /// What is kept for later requests is 0: a start leaves it so.
 pub fn reserved_is_zero(chip: &ChipMemory) -> bool {
-    chip.reserved_numbers == [0; 3] && chip.reserved_17 == [0; 7]
+    chip.reserved_number == 0 && chip.reserved_17 == [0; 7]
 }
 
 // ---- The comparison --------------------------------------------------------------------------------------------------------------------
@@ -297,7 +356,8 @@ pub fn difference<const FAULT: u8>(plain: &FaultyChip<FAULT>, chip: &ChipMemory,
         _ => (None, None, 0),
     };
     let stage = if left > 0 { chip.stage | 0x40 } else { chip.stage };
-    let fields: [(&str, u32, u32); 22] = [
+    let [stand_by, power_down] = plain.modes.map(number_of);
+    let fields: [(&str, u32, u32); 24] = [
         ("edition", plain.edition as u32, u32::from(chip.edition)),
         ("held count", u32::from(plain.fifo.held()), u32::from(chip.fifo_write.wrapping_sub(chip.fifo_read))),
         ("timer_running", u32::from(plain.timer.run.is_some()), u32::from(chip.timer_running)),
@@ -315,7 +375,9 @@ pub fn difference<const FAULT: u8>(plain: &FaultyChip<FAULT>, chip: &ChipMemory,
         ("page", u32::from(plain.page), u32::from(chip.page)),
         ("error_flag", u32::from(plain.errors), u32::from(chip.error_flag)),
         ("lost_sum", u32::from(plain.lost_sum), u32::from(chip.lost_sum)),
-        ("control", u32::from(plain.control), u32::from(chip.control)),
+        ("control", u32::from(plain.control()), u32::from(chip.control)),
+        ("stand_by", u32::from(stand_by), u32::from(chip.stand_by)),
+        ("power_down", u32::from(power_down), u32::from(chip.power_down)),
         ("rx_last_bits", u32::from(plain.rx_last_bits), u32::from(chip.rx_last_bits)),
         ("bit_framing", u32::from(plain.bit_framing), u32::from(chip.bit_framing)),
         ("key_loaded", u32::from(plain.key.is_some()), u32::from(chip.key_loaded)),
@@ -389,7 +451,8 @@ pub fn store<const FAULT: u8>(plain: &FaultyChip<FAULT>, position: u8, chip: &mu
     chip.page = plain.page;
     chip.error_flag = plain.errors;
     chip.lost_sum = plain.lost_sum;
-    chip.control = plain.control;
+    chip.control = plain.control();
+    [chip.stand_by, chip.power_down] = plain.modes.map(number_of);
     chip.rx_last_bits = plain.rx_last_bits;
     chip.bit_framing = plain.bit_framing;
     chip.key_loaded = u8::from(plain.key.is_some());

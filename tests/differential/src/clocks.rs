@@ -1,13 +1,15 @@
 //! Clocks in parts, through the library's own calls: an advance by a sum leaves what two advances by its parts do, and an advance by n what n
-//! advances by one do, to the byte. The plain chip takes no part in this; `built` and the random lists compare with it.
+//! advances by one do, to the byte, over ends of programmings and of leavings and over holds that modes take between. The plain chip takes no part in
+//! this; `built` and the random lists compare with it.
 
-use crate::built::started;
-use crate::chip_memory::{Memory, SIZE};
+use crate::built::{started, with_modes};
+use crate::chip_memory::{number_of, Memory, SIZE};
 use crate::library;
-use crate::plain::{Edition, PROGRAMMING_CLOCKS};
+use crate::plain::{power, Edition, Mode, PROGRAMMING_CLOCKS};
 use crate::random::Random;
+use std::fmt;
 
-/// A well-formed chip with a timer and a programming, either of which may rest. With `near` each has few clocks to its next end.
+/// A well-formed chip with a timer and a programming, either of which may rest, and with power modes. With `near` each has few clocks to its next end.
 fn chip(random: &mut Random, base: &Memory, near: bool) -> Memory {
     let mut memory = *base;
     let chip = memory.chip_mut();
@@ -35,7 +37,45 @@ fn chip(random: &mut Random, base: &Memory, near: bool) -> Memory {
         let held = random.of(&[0, 1, 15, 16, 17, 33, 63, 64]);
         chip.fifo_write = chip.fifo_read.wrapping_add(held);
     }
-    memory
+    let modes = power::LEAVING.map(|whole| {
+        let to_go = 1 + random.below(if near { 12 } else { 512 }.min(whole.into())) as u16;
+        match random.below(9) {
+            0 => Mode::Held,
+            1 => Mode::Leaving { to_go: whole },
+            2 | 3 => Mode::Leaving { to_go },
+            4 | 5 if memory.chip().programming_left > 0 => Mode::Waiting,
+            _ => Mode::Off,
+        }
+    });
+    with_modes(&memory, modes)
+}
+
+/// How many advances were made, and of the chips that were advanced by all clocks at once, for StandBy and PowerDown: in how many a hold was taken, and
+/// in how many a leaving ended.
+#[derive(Clone, Copy, Default)]
+pub struct Advances {
+    pub made: u64,
+    pub taken: [u64; 2],
+    pub left: [u64; 2],
+}
+
+impl Advances {
+    fn count(&mut self, before: &Memory, after: &Memory) {
+        let held = |memory: &Memory| [memory.chip().stand_by, memory.chip().power_down].map(|number| number >= number_of(Mode::Held));
+        let (before, after) = (held(before), held(after));
+        for place in 0..2 {
+            self.taken[place] += u64::from(!before[place] && after[place]);
+            self.left[place] += u64::from(before[place] && !after[place]);
+        }
+    }
+}
+
+impl fmt::Display for Advances {
+    fn fmt(&self, out: &mut fmt::Formatter<'_>) -> fmt::Result {
+        let ([taken_0, taken_1], [left_0, left_1]) = (self.taken, self.left);
+        write!(out, "{} advances at once and in parts, with StandBy taking hold {taken_0} times and left {left_0} times, ", self.made)?;
+        write!(out, "and PowerDown {taken_1} and {left_1} times")
+    }
 }
 
 fn advance(memory: &mut Memory, clocks: u32) -> Result<(), String> {
@@ -48,16 +88,21 @@ fn advance(memory: &mut Memory, clocks: u32) -> Result<(), String> {
 
 fn same(one: &Memory, other: &Memory, before: &Memory, how: &str) -> Result<(), String> {
     match (0..SIZE).find(|&place| one.0[place] != other.0[place]) {
-        Some(place) => Err(format!("{how}: byte {place} of the chip is {:02X}h, or {:02X}h in parts, from {:02X?}", one.0[place], other.0[place], &before.0[..56])),
+        Some(place) => Err(format!(
+            "{how}: byte {place} of the chip is {:02X}h, or {:02X}h in parts, from {:02X?}",
+            one.0[place],
+            other.0[place],
+            &before.0[..56]
+        )),
         None => Ok(()),
     }
 }
 
-/// So many chips, each advanced at once and in parts. Answers how many advances those were.
-pub fn in_parts(seed: u64, chips: u64) -> Result<u64, String> {
+/// So many chips, each advanced at once and in parts.
+pub fn in_parts(seed: u64, chips: u64) -> Result<Advances, String> {
     let bases = Edition::BOTH.map(started);
     let mut random = Random::new(seed);
-    let mut count = 0;
+    let mut advances = Advances::default();
     for round in 0..chips {
         let base = bases[(round % 2) as usize];
         // Few clocks, one by one.
@@ -69,22 +114,28 @@ pub fn in_parts(seed: u64, chips: u64) -> Result<u64, String> {
             advance(&mut other, 1)?;
         }
         same(&one, &other, &before, &format!("{clocks} clocks one by one"))?;
+        advances.count(&before, &one);
         // Any number, in two parts.
         let before = chip(&mut random, &base, false);
         let left = u64::from(before.chip().programming_left);
         let step = 1 << before.chip().timer_prescaler;
-        let ends = left + random.below(7) * u64::from(PROGRAMMING_CLOCKS);
-        let steps = random.below(600) * step;
+        let leavings = [before.chip().stand_by, before.chip().power_down].map(|number| u64::from(number % number_of(Mode::Held)));
+        let wakes = leavings[0].max(leavings[1]);
+        let ends = wakes + left + random.below(7) * u64::from(PROGRAMMING_CLOCKS);
+        let steps = wakes + random.below(600) * step;
         let any = random.number() >> 32;
         let near = random.of(&[0, 0, 1, 2]);
-        let total = random.of(&[any, u64::from(u32::MAX), ends + near, ends.saturating_sub(near), steps + near, steps.saturating_sub(near)]) as u32;
-        let cut = random.of(&[any, left, ends, steps, 1, u64::from(total).saturating_sub(1)]).min(total.into()) as u32;
+        let some = random.of(&[ends, steps, leavings[0], wakes]);
+        let total = random.of(&[any, u64::from(u32::MAX), some + near, some.saturating_sub(near)]) as u32;
+        let cut =
+            random.of(&[any, left, ends, steps, leavings[0], leavings[1], 1, u64::from(total).saturating_sub(1)]).min(total.into()) as u32;
         let (mut one, mut other) = (before, before);
         advance(&mut one, total)?;
         advance(&mut other, cut)?;
         advance(&mut other, total - cut)?;
         same(&one, &other, &before, &format!("{cut} clocks and {} more (round {round})", total - cut))?;
-        count += 4 + u64::from(clocks);
+        advances.count(&before, &one);
+        advances.made += 4 + u64::from(clocks);
     }
-    Ok(count)
+    Ok(advances)
 }

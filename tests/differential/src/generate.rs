@@ -1,10 +1,10 @@
 //! Call lists that get somewhere. The generator looks at the plain chip as it stands, makes small plans (a command with its arguments, a frame
 //! with its CRC, a programming to its last clock ...), and strays from them now and then.
 
-use crate::built::{type_by_arithmetic, SUMS};
+use crate::built::{type_by_arithmetic, NUMBERS, SUMS};
 use crate::call::{lively, near_type, some_type, Call, Fill, Image};
-use crate::chip_memory::{field, Memory, ARRAYS, SIZE};
-use crate::plain::{stored_nibble, Checksum, Command, Edition, FaultyChip, Fifo, Writing, PROGRAMMING_CLOCKS};
+use crate::chip_memory::{field, Memory, ARRAYS, HOLD, SIZE};
+use crate::plain::{power, stored_nibble, Checksum, Command, Edition, FaultyChip, Fifo, Mode, Timer, Writing, PROGRAMMING_CLOCKS};
 use crate::random::Random;
 use std::collections::VecDeque;
 
@@ -18,6 +18,10 @@ enum Step {
     ProgrammingEnd(i64),
     /// Clocks up to the timer's next end, and so many more.
     TimerEnd(i64),
+    /// Clocks up to the next end of a leaving, or to the later one of two, and so many more.
+    LeavingEnd(bool, i64),
+    /// Calls until both power modes are off, without a flush.
+    Awake,
     /// A delivery that fits the settings, or nearly.
     Deliver,
     /// Calls until so many bytes are held, without a flush.
@@ -25,6 +29,33 @@ enum Step {
     /// So many calls of which most lose as many bytes as a call can, without a flush.
     Flood(u32),
     Call(Call),
+}
+
+/// What is looked at of the plain chip, whichever fault it has: so there is one generator for all of them.
+struct Seen<'a> {
+    command: Command,
+    fifo: &'a Fifo,
+    timer: Timer,
+    modes: [Mode; 2],
+    page: u8,
+    registers: &'a [u8; 32],
+}
+
+impl<'a> Seen<'a> {
+    fn of<const FAULT: u8>(chip: &'a FaultyChip<FAULT>) -> Self {
+        let FaultyChip { command, fifo, timer, modes, page, registers, .. } = chip;
+        Seen { command: *command, fifo, timer: *timer, modes: *modes, page: *page, registers }
+    }
+
+    fn holds(&self) -> bool {
+        self.modes.iter().any(|mode| mode.holds())
+    }
+
+    /// Clocks up to the next end of a leaving, and to the last one; 0 where no mode is being left.
+    fn waking(&self) -> (i64, i64) {
+        let to_go = self.modes.iter().filter_map(|mode| if let Mode::Leaving { to_go } = mode { Some(i64::from(*to_go)) } else { None });
+        (to_go.clone().min().unwrap_or(0), to_go.max().unwrap_or(0))
+    }
 }
 
 /// ReadE2's arguments for all that it may read: 128 bytes from 000h.
@@ -44,6 +75,8 @@ pub struct Generator {
 const COMMANDS: [u8; 10] = [0x00, 0x01, 0x03, 0x07, 0x0B, 0x12, 0x16, 0x19, 0x1A, 0x1E];
 /// Clocks of a programming, to be added to others.
 const PROGRAMMING: i64 = PROGRAMMING_CLOCKS as i64;
+/// Clocks around the ends of leavings and programmings, and of what 16 and 32 bits hold.
+const CLOCKS: [u32; 14] = [0, 1, 2, 3, 4, 5, 512, 65_535, 65_536, 78_648, 131_072, 235_944, 1 << 24, u32::MAX];
 const STAGES: [u8; 12] = [0x00, 0x01, 0x41, 0x03, 0x07, 0x0B, 0x12, 0x19, 0x5A, 0x96, 0x5E, 0x9E];
 const SETTINGS: [u8; 8] = [0x0F, 0x22, 0x23, 0x24, 0x29, 0x2A, 0x2B, 0x2C];
 const EDGES: [u16; 31] = [
@@ -59,6 +92,10 @@ impl Generator {
 
     /// The next call, by the plain chip; none is for a malformed memory.
     pub fn next<const FAULT: u8>(&mut self, plain: Option<&FaultyChip<FAULT>>, memory: &Memory) -> Call {
+        self.next_by(plain.map(Seen::of).as_ref(), memory)
+    }
+
+    fn next_by(&mut self, plain: Option<&Seen>, memory: &Memory) -> Call {
         if self.mend_in > 0 {
             self.mend_in -= 1;
             if self.mend_in == 0 {
@@ -92,7 +129,7 @@ impl Generator {
     }
 
     /// A step as a call of this moment; it may put itself off and another before it.
-    fn turn<const FAULT: u8>(&mut self, step: Step, chip: &FaultyChip<FAULT>) -> Option<Call> {
+    fn turn(&mut self, step: Step, chip: &Seen) -> Option<Call> {
         let random = &mut self.random;
         match step {
             Step::Call(call) => Some(call),
@@ -121,12 +158,31 @@ impl Generator {
                     Command::WriteE2(Writing::Programming { left, .. }) => i64::from(left),
                     _ => return random.one_in(4).then(|| Call::Advance { clocks: random.below(40) as u32 }),
                 };
-                Some(self.clocks(left + more, Step::ProgrammingEnd(more)))
+                // A mode in hold keeps it from its end.
+                if chip.modes.contains(&Mode::Held) && !random.one_in(4) {
+                    self.plan.push_front(step);
+                    return self.turn(Step::Awake, chip);
+                }
+                Some(self.clocks(chip.waking().1 + left + more, Step::ProgrammingEnd(more)))
             }
             Step::TimerEnd(more) => {
                 let run = chip.timer.run?;
                 let left = (i64::from(chip.timer.value) << run.prescaler) - i64::from(run.phase);
-                Some(self.clocks(left + more, Step::TimerEnd(more)))
+                Some(self.clocks(chip.waking().1 + left + more, Step::TimerEnd(more)))
+            }
+            Step::LeavingEnd(later, more) => {
+                let (sooner, latest) = chip.waking();
+                let left = if later { latest } else { sooner };
+                (left > 0).then(|| self.clocks(left + more, Step::LeavingEnd(later, more)))
+            }
+            Step::Awake => {
+                let next = match chip.modes {
+                    [Mode::Off, Mode::Off] => return None,
+                    modes if modes.contains(&Mode::Held) || modes.contains(&Mode::Waiting) => Step::Set(0x09, 0x00),
+                    _ => Step::LeavingEnd(true, 0),
+                };
+                self.plan.push_front(step);
+                self.turn(next, chip)
             }
             Step::Deliver => Some(self.frame(chip)),
             Step::Hold(wanted) => {
@@ -139,6 +195,7 @@ impl Generator {
                     self.plan.push_front(Step::Flood(calls - 1));
                 }
                 let next = match chip.command {
+                    _ if chip.holds() => Step::Awake,
                     Command::Idle if chip.fifo.bytes().take(3).eq(MOST_READ) => Step::Set(0x01, 0x03),
                     command if command.receives() => pass_whole(MOST_READ.into_iter().cycle().take(64).collect()),
                     // The next round's arguments come into an empty FIFO.
@@ -151,11 +208,13 @@ impl Generator {
 
     /// A call that brings the FIFO nearer to so many bytes held; none where they are. Over three that are missing are delivered, and over three that are
     /// too many go with a take: neither a flush nor a start is among the calls, so that the sum of lost bytes stays.
-    fn towards<const FAULT: u8>(&mut self, wanted: u8, chip: &FaultyChip<FAULT>) -> Option<Step> {
+    fn towards(&mut self, wanted: u8, chip: &Seen) -> Option<Step> {
         let held = chip.fifo.held();
         let (missing, more) = (wanted.saturating_sub(held), held.saturating_sub(wanted));
         Some(match chip.command {
             _ if held == wanted => return None,
+            // In a mode frames are refused, and a programming may stand still.
+            _ if chip.holds() => Step::Awake,
             // No other command can be written before its end.
             Command::WriteE2(Writing::Programming { .. }) => Step::ProgrammingEnd(0),
             command if command.receives() && missing > 0 => pass_whole(self.random.bytes(missing.into())),
@@ -187,9 +246,7 @@ impl Generator {
             4..=7 => Call::Write { address: random.byte() & 0x3F, byte: random.byte() },
             8 => Call::Read { address: random.of(&[63, 64, 65, 127, 128, 255, 0x42]) },
             9 => Call::Write { address: random.of(&[63, 64, 65, 127, 128, 255, 0x42]), byte: random.byte() },
-            10 => Call::Advance {
-                clocks: random.of(&[0, 1, 2, 65_535, 65_536, 78_648, 131_072, 235_944, 1 << 24, u32::MAX, random.clone().number() as u32]),
-            },
+            10 => Call::Advance { clocks: if random.one_in(15) { random.number() as u32 } else { random.of(&CLOCKS) } },
             11 => Call::Advance { clocks: random.below(66_000) as u32 },
             12 | 13 => self.take(),
             14 => {
@@ -265,10 +322,13 @@ impl Generator {
     /// A command with bytes for it: before it, after it, or some before and some after.
     fn command(&mut self, code: u8, bytes: &[u8]) {
         if !self.random.one_in(5) {
-            // Nothing left over: Idle, and a flush.
+            // Nothing left over: Idle, and a flush; then no mode, mostly, after which clocks count and frames pass again.
             self.set(0x01, 0x00);
-            let control = self.random.of(&[0x01, 0x01, 0x01, 0x31]);
+            let control = self.random.of(&[0x01, 0x01, 0x01, 0x01, 0x01, 0x31, 0x11, 0x21]);
             self.set(0x09, control);
+        }
+        if !self.random.one_in(6) {
+            self.plan.push_back(Step::Awake);
         }
         if self.random.one_in(3) {
             // Requests cleared, so that new ones are seen.
@@ -311,7 +371,7 @@ impl Generator {
 
     /// A new plan, or a call right away.
     fn make_plan(&mut self, memory: &Memory) -> Option<Call> {
-        match self.random.below(110) {
+        match self.random.below(130) {
             0..=9 => {
                 for _ in 0..=self.random.below(4) {
                     self.setting();
@@ -400,6 +460,9 @@ impl Generator {
                 }
                 let control = self.random.of(&[0x02, 0x02, 0x02, 0x06, 0x07]);
                 self.set(0x09, control);
+                if !self.random.one_in(6) {
+                    self.plan.push_back(Step::Awake);
+                }
                 let more = self.random.of(&[-1, -1, 0, 1, 2, 7, 300]);
                 self.plan.push_back(Step::TimerEnd(more));
                 for _ in 0..self.random.below(4) {
@@ -432,6 +495,7 @@ impl Generator {
             }
             92..=96 => return Some(self.corrupt(memory)),
             100..=109 => self.plan_loss(),
+            110..=129 => self.plan_modes(),
             88 | 97 | 98 => {
                 let register = self.random.byte() & 0x3F;
                 let byte = self.random.byte();
@@ -451,7 +515,7 @@ impl Generator {
     }
 
     /// What the active command waits for, whichever way it became active.
-    fn go_on<const FAULT: u8>(&mut self, chip: &FaultyChip<FAULT>) {
+    fn go_on(&mut self, chip: &Seen) {
         let held = usize::from(chip.fifo.held());
         if self.random.one_in(3) {
             // PrimaryStatus shows ModemState, which goes by the command.
@@ -590,7 +654,10 @@ impl Generator {
                     self.set(0x01, code);
                 }
                 8 => self.plan.extend([Step::Get(0x05), Step::Get(0x02), Step::Get(0x07)]),
-                _ => self.set(0x09, 0x01),
+                _ => {
+                    let control = self.random.of(&[0x01, 0x01, 0x00, 0x10, 0x20, 0x30]);
+                    self.set(0x09, control);
+                }
             }
         }
         if self.random.one_in(3) {
@@ -599,8 +666,119 @@ impl Generator {
         }
     }
 
+    /// Writes of Control and clocks, with a timer, a programming of several batches or a frame beside them, or with nothing.
+    fn plan_modes(&mut self) {
+        if self.random.one_in(2) {
+            let clock = self.random.of(&[0x00, 0x00, 0x01, 0x02, 0x20, 0x21, 0x28]);
+            let reload = self.random.of(&[1, 2, 5, 100, 255, 255]);
+            self.set(0x2A, clock);
+            self.set(0x2C, reload);
+            self.set(0x09, 0x02);
+        }
+        let beside = self.random.below(10);
+        match beside {
+            0..=4 => {
+                // Bytes of one block, up to its end and beyond it, and beyond the memory's.
+                let address: u16 = self.random.of(&[0x010, 0x01D, 0x03F, 0x16C, 0x1E9, 0x1F0, 0x1FE, 0x1FF, 0x1FF, 0x1FF]);
+                let count = self.random.of(&[0, 1, 1, 2, 3, 4, 8, 17, 20, 33]);
+                let [low, high] = address.to_le_bytes();
+                let bytes = [vec![low, high], self.random.bytes(count)].concat();
+                if self.random.one_in(3) {
+                    // In a mode from its beginning on.
+                    let control = self.random.of(&[0x11, 0x21, 0x31]);
+                    self.plan.extend([Step::Set(0x01, 0x00), Step::Set(0x09, control), Step::Set(0x01, 0x01)]);
+                    bytes.iter().for_each(|&byte| self.set(0x02, byte));
+                } else {
+                    self.command(0x01, &bytes);
+                }
+            }
+            5 | 6 => {
+                let code = self.random.of(&[0x1A, 0x1E]);
+                let data = self.data(4);
+                self.command(code, &data);
+            }
+            7 => self.command(0x16, &[]),
+            8 => {
+                let code = self.random.of(&COMMANDS);
+                self.set(0x01, code);
+            }
+            _ => {}
+        }
+        for _ in 0..3 + self.random.below(14) {
+            if (5..=7).contains(&beside) && self.random.one_in(3) {
+                let take = self.take();
+                self.plan.push_back(if beside == 7 { Step::Deliver } else { Step::Call(take) });
+            }
+            match self.random.below(24) {
+                0..=8 => {
+                    let control = self.power_bits();
+                    self.set(0x09, control);
+                    if self.random.one_in(3) {
+                        self.plan.push_back(Step::Get(0x09));
+                    }
+                }
+                9 | 10 => {
+                    let later = self.random.one_in(2);
+                    let more = self.random.of(&[-2, -1, -1, 0, 0, 1, 2, PROGRAMMING - 1, PROGRAMMING]);
+                    self.plan.push_back(Step::LeavingEnd(later, more));
+                }
+                11..=13 => {
+                    let more = self.random.of(&[-1, -1, 0, 0, 1, 4, 512, PROGRAMMING - 1, PROGRAMMING, PROGRAMMING + 1]);
+                    self.plan.push_back(Step::ProgrammingEnd(more));
+                }
+                14 | 15 => {
+                    let leaving = self.random.of(&[0, 0, 1, 4, 4, 508, 512, 512]);
+                    let programmings = self.random.of(&[0, 0, 0, PROGRAMMING, 2 * PROGRAMMING]);
+                    let near = self.random.of(&[-1, 0, 0, 1, 2]);
+                    self.call(Call::Advance { clocks: (leaving + programmings + near).max(0) as u32 });
+                }
+                16 => {
+                    let clocks = self.random.of(&[0, 1, 1, 2, 3, 5, 1000, u32::MAX]);
+                    self.call(Call::Advance { clocks });
+                }
+                17 => self.plan.push_back(Step::TimerEnd(0)),
+                18 | 19 => {
+                    let data = self.data(20);
+                    data.iter().for_each(|&byte| self.set(0x02, byte));
+                }
+                20 => {
+                    let code = self.random.of(&[0x00, 0x01, 0x12, 0x16, 0x1A, 0x1E, 0x3F]);
+                    self.set(0x01, code);
+                }
+                21 => {
+                    let take = self.take();
+                    self.call(take);
+                }
+                22 => self.plan.push_back(Step::Deliver),
+                _ => {
+                    let register = self.random.of(&[0x03, 0x05, 0x07, 0x09, 0x0C]);
+                    self.plan.push_back(Step::Get(register));
+                }
+            }
+        }
+        match self.random.below(10) {
+            0..=5 => self.plan.push_back(Step::Awake),
+            6 => {
+                let start = self.start();
+                self.call(start);
+            }
+            _ => {}
+        }
+    }
+
+    /// A byte for Control: any of bits 5, 4, 2, 1 and 0, the power bits alone most often.
+    fn power_bits(&mut self) -> u8 {
+        let bits = self.random.of(&[0x00, 0x00, 0x10, 0x20, 0x30]);
+        bits | match self.random.below(8) {
+            0..=4 => 0,
+            5 => self.random.of(&[0x01, 0x02, 0x04]),
+            6 => self.random.byte() & 0x07,
+            _ => self.random.byte() & 0xCF,
+        }
+    }
+
     /// A frame for the settings of now: CRC and parity right or, now and then, wrong.
-    fn frame<const FAULT: u8>(&mut self, chip: &FaultyChip<FAULT>) -> Call {
+    fn frame(&mut self, chip: &Seen) -> Call {
         let mode = chip.registers[0x12];
         let mut checksum = Checksum::begin(mode, chip.registers[0x13], chip.registers[0x14]);
         let mut bytes = self.data(64);
@@ -683,7 +861,7 @@ impl Generator {
             let (start, length) = field(name).unwrap_or_else(|| panic!("no field {name}"));
             edits.extend((0..length).map(|place| ((start + place) as u16, value.checked_shr(8 * place as u32).unwrap_or(0) as u8)));
         };
-        match random.below(18) {
+        match random.below(20) {
             0 | 1 => {
                 let prescaler = random.of(&[0, 0, 1, 2, 5, 12, 20, 21, 21, 22, 23, 31, 32, 33, 53, 64, 128, 254, 255]);
                 let period = 1u32.checked_shl(prescaler).unwrap_or(0);
@@ -806,8 +984,43 @@ impl Generator {
                     _ => Vec::new(),
                 };
             }
-            16 => {
-                let name = random.of(&["reserved_numbers", "reserved_17"]);
+            16 | 17 => {
+                // Power modes: of each the bit and the number, mostly such as belong together, over a programming with any clocks left, or over none.
+                let programs = random.one_in(2);
+                let left = random.of(&[1, 1, 2, 3, 5, 78_647, 78_648, random.clone().below(78_648) as u32 + 1]);
+                if programs {
+                    let latched = 1 + random.below(16) as u32;
+                    put("stage", random.of(&[0x01, 0x41]));
+                    put("latched", latched);
+                    put("next_address", random.of(&[0x030, 0x030, 0x170, 0x000]));
+                }
+                put("programming_left", if programs { left } else { 0 });
+                let mut control = 0;
+                for (place, name) in ["stand_by", "power_down"].into_iter().enumerate() {
+                    let whole = power::LEAVING[place];
+                    let some = 1 + random.below(whole.into()) as u16;
+                    let (bit, number) = match random.below(12) {
+                        0..=2 => (false, 0),
+                        3 | 4 => (true, HOLD),
+                        5 | 6 => (true, HOLD + random.of(&[1, some, some, whole])),
+                        7 | 8 => (true, 0),
+                        9 => (random.one_in(2), HOLD + random.of(&[0, whole, whole + 1])),
+                        10 => (random.one_in(2), random.of(&[1, some, whole])),
+                        _ => (random.one_in(2), if random.one_in(2) { random.of(&NUMBERS) } else { random.number() as u16 }),
+                    };
+                    control |= if bit { power::BITS[place] } else { 0 };
+                    put(name, u32::from(number));
+                }
+                put("control", u32::from(control));
+                self.after_forging = match random.below(4) {
+                    0 => vec![Step::Set(0x09, random.of(&[0x00, 0x10, 0x20, 0x30])), Step::LeavingEnd(false, 0)],
+                    1 => vec![Step::LeavingEnd(random.one_in(2), random.of(&[-1, 0, 1, 2])), Step::ProgrammingEnd(0)],
+                    2 => vec![Step::ProgrammingEnd(random.of(&[-1, 0, 1, 600]))],
+                    _ => Vec::new(),
+                };
+            }
+            18 => {
+                let name = random.of(&["reserved_number", "reserved_17"]);
                 let (start, length) = field(name).unwrap_or_default();
                 for place in start..start + length {
                     if random.one_in(2) {

@@ -39,23 +39,38 @@ mod stub {
     use crate::answer;
     use crate::checksum;
     use crate::chip_memory::{plain_of, store};
-    use crate::plain::{fault, Chip, Refusal};
+    use crate::plain::{fault, Chip, Command, Mode, Refusal, Writing};
     use crate::profile;
     use std::slice;
 
     /// One event on the chip of a memory. The FIFO begins at another position after each, since no definition decides where.
     fn event(chip: *mut ChipMemory, event: impl FnOnce(&mut Chip) -> u32) -> u32 {
+        moved(chip, |_| 37, event)
+    }
+
+    /// One event, with how far the FIFO's position moves, by the bytes that it holds less.
+    fn moved(chip: *mut ChipMemory, by: fn(u8) -> u8, event: impl FnOnce(&mut Chip) -> u32) -> u32 {
         // SAFETY: the caller's pointer is good.
         let memory = unsafe { &mut *chip };
         let Ok(mut plain) = plain_of(memory) else {
             return Refusal::ChipMalformed as u32;
         };
+        let held = plain.fifo.held();
         let answer = event(&mut plain);
         if answer & 0xFF == 0 {
-            let position = memory.fifo_read.wrapping_add(37);
+            let position = memory.fifo_read.wrapping_add(by(held.wrapping_sub(plain.fifo.held())));
             store(&plain, position, memory);
         }
         answer
+    }
+
+    /// Clocks up to the next end of a leaving, or of a programming that runs.
+    fn next_end(plain: &Chip) -> u32 {
+        let to_go = |mode: &Mode| if let Mode::Leaving { to_go } = mode { Some(u32::from(*to_go)) } else { None };
+        match plain.command {
+            Command::WriteE2(Writing::Programming { left, .. }) if !plain.holds() => left,
+            _ => plain.modes.iter().filter_map(to_go).min().unwrap_or(u32::MAX),
+        }
     }
 
     pub unsafe fn mfrc531_start(chip: *mut ChipMemory, image: *const u8, length: usize) -> u32 {
@@ -78,7 +93,21 @@ mod stub {
     }
 
     pub unsafe fn mfrc531_advance(chip: *mut ChipMemory, clocks: u32) -> u32 {
-        event(chip, |plain| answer::of_nothing(plain.advance(clocks)))
+        // No clock changes nothing. Others go from one end to the next, so that what no definition decides is the same however they are parted.
+        let mut left = clocks;
+        let mut answer = answer::of_nothing(plain_of(&*chip).map_or(Err(Refusal::ChipMalformed), |_: Chip| Ok(())));
+        while left > 0 && answer == 0 {
+            answer = moved(
+                chip,
+                |taken| taken,
+                |plain| {
+                    let part = next_end(plain).min(left);
+                    left -= part;
+                    answer::of_nothing(plain.advance(part))
+                },
+            );
+        }
+        answer
     }
 
     pub unsafe fn mfrc531_take(chip: *mut ChipMemory, buffer: *mut u8, length: usize) -> u32 {

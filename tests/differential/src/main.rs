@@ -36,7 +36,7 @@ const NONE: u8 = plain::fault::NONE;
 const USAGE: &str = "differential [--calls N] [--seed S] [--break N|all] [--random] [--trace] | --replay FILE | --race | --mixes | --count CHIP KIND ROUNDS";
 
 /// Lists written by hand, run before the random ones.
-const DIRECTED: [(&str, &str); 7] = [
+const DIRECTED: [(&str, &str); 8] = [
     ("numbers", include_str!("../lists/numbers.txt")),
     ("memory", include_str!("../lists/memory.txt")),
     ("clocks", include_str!("../lists/clocks.txt")),
@@ -44,6 +44,7 @@ const DIRECTED: [(&str, &str); 7] = [
     ("refusals", include_str!("../lists/refusals.txt")),
     ("editions", include_str!("../lists/editions.txt")),
     ("lost", include_str!("../lists/lost.txt")),
+    ("power", include_str!("../lists/power.txt")),
 ];
 
 struct Options {
@@ -201,12 +202,15 @@ fn compare(options: &Options) -> bool {
         Ok(statistics) => {
             println!(
                 "No difference, {:.1} s. {statistics}; besides, {} built states judged, {} of them with a sum of lost bytes above 0 and {} with one \
-                 that FIFOOvfl does not agree with, and {calls} calls on such, {parts} advances at once and in parts, {checksums} checksums over \
-                 slices, {profiles}",
+                 that FIFOOvfl does not agree with, {} well formed with a power mode that is not off, of which {} have a programming that stands still \
+                 with clocks behind it, and {} malformed by a mode, and {calls} calls on such, {parts}, {checksums} checksums over slices, {profiles}",
                 begin.elapsed().as_secs_f64(),
                 states.all,
                 states.summed,
-                states.apart
+                states.apart,
+                states.in_modes,
+                states.begun,
+                states.by_modes
             );
             true
         }
@@ -296,25 +300,28 @@ fn replay(file: &str) -> bool {
 
 // ---- A difference ----------------------------------------------------------------------------------------------------------------------
 
+/// `difference` for a chip with one fault or with none.
+type Difference = fn(&List) -> Option<(usize, String)>;
+
 /// The place of the first call of a list that differs, and how.
 fn difference<const FAULT: u8>(list: &List) -> Option<(usize, String)> {
     let mut session = Session::<FAULT>::new(list.memory);
     list.calls.iter().enumerate().find_map(|(place, call)| session.perform(call).err().map(|difference| (place, difference)))
 }
 
-/// A shorter list that differs too: drops calls while a difference stays, then bytes of what is left.
-fn shrink<const FAULT: u8>(mut list: List) -> (List, String) {
+/// A shorter list that differs too, as `difference` finds it: drops calls while a difference stays, then bytes of what is left.
+fn shrink(difference: Difference, mut list: List) -> (List, String) {
     let mut found = String::new();
     let end = Instant::now() + Duration::from_secs(20);
-    if let Some((place, difference)) = difference::<FAULT>(&list) {
+    if let Some((place, message)) = difference(&list) {
         list.calls.truncate(place + 1);
-        found = difference;
+        found = message;
     }
-    let attempt = |list: &mut List, found: &mut String, shorter: List| match difference::<FAULT>(&shorter) {
-        Some((place, difference)) if Instant::now() < end => {
+    let attempt = |list: &mut List, found: &mut String, shorter: List| match difference(&shorter) {
+        Some((place, message)) if Instant::now() < end => {
             *list = shorter;
             list.calls.truncate(place + 1);
-            *found = difference;
+            *found = message;
             true
         }
         _ => false,
@@ -392,7 +399,7 @@ fn show<const FAULT: u8>(list: &List) {
 
 fn report<const FAULT: u8>(failure: &Failure, seed: u64) {
     println!("DIFFERENCE in {} (seed {seed}), at call {} of the run: {}", failure.origin, failure.calls, failure.difference);
-    let (list, found) = shrink::<FAULT>(failure.list.clone());
+    let (list, found) = shrink(difference::<FAULT>, failure.list.clone());
     println!("Shortest list found, {} calls (of {}): {found}", list.calls.len(), failure.list.calls.len());
     println!("To repeat it, put these lines into a file and give --replay FILE:");
     show::<FAULT>(&list);
@@ -400,45 +407,57 @@ fn report<const FAULT: u8>(failure: &Failure, seed: u64) {
 
 // ---- Planted faults --------------------------------------------------------------------------------------------------------------------
 
-/// What a fault is looked for with, by its number.
+/// What a fault of the chip is looked for with, by its number.
 struct Planted {
     run: fn(&Options) -> Result<Statistics, Box<Failure>>,
-    shrink: fn(List) -> (List, String),
+    difference: Difference,
     show: fn(&List),
-    profiles: fn(u64, u64, bool) -> Result<profile::Met, String>,
+}
+
+/// The comparison of profile checks and choices, with a fault by its number.
+type Profiles = fn(u64, u64, bool) -> Result<profile::Met, String>;
+
+/// Plants a fault into the plain profile check and choice. True if the comparison notices it.
+fn notice_in_profiles(fault: u8, options: &Options) -> bool {
+    macro_rules! planted {
+        ($($number:literal)*) => {
+            match fault {
+                $($number => profile::compare::<$number>,)*
+                _ => return false,
+            }
+        };
+    }
+    let compare: Profiles = planted!(89 90 91 92 93 94);
+    let name = plain::fault::NAMES[usize::from(fault) - 1];
+    let compared = compare(options.seed, options.calls / 5, options.random);
+    match &compared {
+        Err(message) => println!("fault {fault}, {name}: noticed: {message}"),
+        Ok(met) => println!("fault {fault}, {name}: NOT NOTICED in {met}"),
+    }
+    compared.is_err()
 }
 
 /// Plants a fault into the plain chip, or into the plain profile check and choice. True if the comparison notices it.
 fn notice(fault: u8, options: &Options) -> bool {
+    if fault >= plain::fault::IN_PROFILES {
+        return notice_in_profiles(fault, options);
+    }
     macro_rules! planted {
         ($($number:literal)*) => {
             match fault {
-                $($number => Planted {
-                    run: run::<$number>,
-                    shrink: shrink::<$number>,
-                    show: show::<$number>,
-                    profiles: profile::compare::<$number>,
-                },)*
+                $($number => Planted { run: run::<$number>, difference: difference::<$number>, show: show::<$number> },)*
                 _ => return false,
             }
         };
     }
     let planted = planted!(
-        1 2 3 4 5 6 7 8 9 10 11 12 13 14 15 16 17 18 19 20 21 22 23 24 25 26 27 28 29 30 31 32 33 34 35 36 37 38 39 40 41 42 43
-        44 45 46 47 48 49 50 51 52 53 54
+        1 2 3 4 5 6 7 8 9 10 11 12 13 14 15 16 17 18 19 20 21 22 23 24 25 26 27 28 29 30 31 32 33 34 35 36 37 38 39 40 41 42 43 44 45 46
+        47 48 49 50 51 52 53 54 55 56 57 58 59 60 61 62 63 64 65 66 67 68 69 70 71 72 73 74 75 76 77 78 79 80 81 82 83 84 85 86 87 88
     );
     let name = plain::fault::NAMES[usize::from(fault) - 1];
-    if fault >= plain::fault::IN_PROFILES {
-        let compared = (planted.profiles)(options.seed, options.calls / 5, options.random);
-        match &compared {
-            Err(message) => println!("fault {fault}, {name}: noticed: {message}"),
-            Ok(met) => println!("fault {fault}, {name}: NOT NOTICED in {met}"),
-        }
-        return compared.is_err();
-    }
     match (planted.run)(options).err() {
         Some(failure) => {
-            let (list, found) = (planted.shrink)(failure.list);
+            let (list, found) = shrink(planted.difference, failure.list);
             println!(
                 "fault {fault}, {name}: noticed at call {} ({}), shortest list {} calls: {found}",
                 failure.calls,

@@ -16,6 +16,18 @@ pub const EEPROM_SIZE: usize = 512;
 /// The least that a take's buffer has to hold: a full FIFO and a CRC.
 pub const TAKE_BUFFER: usize = 66;
 
+/// The two power modes, each by its place here: StandBy, then PowerDown.
+pub mod power {
+    pub const STAND_BY: usize = 0;
+    pub const POWER_DOWN: usize = 1;
+
+    /// Their bits of Control (09h).
+    pub const BITS: [u8; 2] = [1 << 5, 1 << 4];
+
+    /// Clocks that leaving them takes.
+    pub const LEAVING: [u16; 2] = [4, 512];
+}
+
 /// Faults that can be planted, one by one, to see that a comparison notices them. `Chip` is the chip without a fault.
 pub mod fault {
     pub const NONE: u8 = 0;
@@ -67,18 +79,58 @@ pub mod fault {
     pub const FLUSH_LEAVES_SUM: u8 = 46;
     pub const START_LEAVES_SUM: u8 = 47;
     pub const SUM_WITHOUT_THE_FLAG_IS_REFUSED: u8 = 48;
-    pub const FIXED_1_IS_TESTED_AS_0: u8 = 49;
-    pub const EDITION_ABOVE_1_IS_CHECKED: u8 = 50;
-    pub const EDITION_BEFORE_LENGTH: u8 = 51;
-    pub const CHOICE_BY_ONE_TABLE: u8 = 52;
-    pub const CHOICE_OF_NEITHER: u8 = 53;
-    pub const RESCUE_BY_THE_USERS_EDITION: u8 = 54;
+    pub const LAST_CLOCK_OF_A_LEAVING_COUNTS: u8 = 49;
+    pub const LEAVINGS_SHARE_A_COUNT: u8 = 50;
+    pub const ZERO_BEGINS_A_LEAVING_ANEW: u8 = 51;
+    pub const ONE_HALTS_A_LEAVING: u8 = 52;
+    pub const HOLD_AT_THE_WRITE: u8 = 53;
+    pub const TIMER_MISSES_THE_END: u8 = 54;
+    pub const WAITING_IS_NOT_CANCELLED: u8 = 55;
+    pub const WAITING_IS_LEFT: u8 = 56;
+    pub const WAITING_STOPS_THE_TIMER: u8 = 57;
+    pub const WAITING_FOR_EVERY_BATCH: u8 = 58;
+    pub const STANDING_STILL_IS_NO_PROGRAMMING: u8 = 59;
+    pub const ONE_IN_A_LEAVING_WAITS: u8 = 60;
+    pub const BATCH_BEHIND_THE_HOLD_IS_NOT_LATCHED: u8 = 61;
+    pub const BLOCK_0_CANCELS_A_MODE: u8 = 62;
+    pub const CLOCKS_BEHIND_THE_HOLD_COUNT: u8 = 63;
+    pub const ONE_HAPPENING_IN_AN_ADVANCE: u8 = 64;
+    pub const LEAVING_BY_CLOCKS_LET_THROUGH: u8 = 65;
+    pub const ZERO_BESIDE_A_ONE_IS_IGNORED: u8 = 66;
+    pub const FLUSH_ALONE_LEAVES_MODES: u8 = 67;
+    pub const BIT_READS_0_IN_A_LEAVING: u8 = 68;
+    pub const READY_WHILE_STANDING_STILL: u8 = 69;
+    pub const COMMAND_WHILE_STANDING_STILL: u8 = 70;
+    pub const NO_FLUSH_IN_A_MODE: u8 = 71;
+    pub const NO_STOP_IN_A_MODE: u8 = 72;
+    pub const NO_START_OF_THE_TIMER_IN_A_MODE: u8 = 73;
+    pub const TAKE_IN_A_LEAVING: u8 = 74;
+    pub const DELIVERY_IN_A_LEAVING: u8 = 75;
+    pub const FRAMES_IN_STAND_BY: u8 = 76;
+    pub const MODE_REFUSED_BEFORE_5_AND_6: u8 = 77;
+    pub const LEAVING_SETS_A_REQUEST: u8 = 78;
+    pub const START_KEEPS_A_MODE: u8 = 79;
+    pub const WAITING_ALONE_IS_WELL_FORMED: u8 = 80;
+    pub const WAITING_BESIDE_WRITE_E2_IS_WELL_FORMED: u8 = 81;
+    pub const WAITING_IS_MALFORMED: u8 = 82;
+    pub const HOLD_WITHOUT_A_BIT_IS_WELL_FORMED: u8 = 83;
+    pub const LEAVING_WITHOUT_A_HOLD_IS_WELL_FORMED: u8 = 84;
+    pub const ONE_CLOCK_TOO_MANY_IS_WELL_FORMED: u8 = 85;
+    pub const WHOLE_LEAVING_IS_MALFORMED: u8 = 86;
+    pub const STAND_BY_JUDGED_BY_512: u8 = 87;
+    pub const HOLD_OVER_A_BEGUN_PROGRAMMING_IS_MALFORMED: u8 = 88;
+    pub const FIXED_1_IS_TESTED_AS_0: u8 = 89;
+    pub const EDITION_ABOVE_1_IS_CHECKED: u8 = 90;
+    pub const EDITION_BEFORE_LENGTH: u8 = 91;
+    pub const CHOICE_BY_ONE_TABLE: u8 = 92;
+    pub const CHOICE_OF_NEITHER: u8 = 93;
+    pub const RESCUE_BY_THE_USERS_EDITION: u8 = 94;
 
     /// The first of those that are planted into the profile check and the choice (`profile`) and not into the chip.
     pub const IN_PROFILES: u8 = FIXED_1_IS_TESTED_AS_0;
 
     /// What the faults are, from 1 on.
-    pub const NAMES: [&str; 54] = [
+    pub const NAMES: [&str; 94] = [
         "WaterLevel is off by one",
         "a Command write clears FIFOOvfl",
         "an overflow drops the oldest byte",
@@ -127,6 +179,46 @@ pub mod fault {
         "a flush leaves the sum of lost bytes",
         "a start leaves the sum of lost bytes",
         "the call for the sum of lost bytes refuses one above 0 beside a clear FIFOOvfl",
+        "the last clock of a leaving reaches timer and programming",
+        "both modes are left by one count, the longer",
+        "a 0 written during a leaving begins it anew",
+        "a 1 written during a leaving halts its count, and a later 0 goes on with it",
+        "a mode has hold at once although there is a programming",
+        "the timer misses the clock that ends a programming for which a mode waits",
+        "a 0 written to a mode that waits is ignored",
+        "a 0 written to a mode that waits begins a leaving",
+        "the timer stands while a mode waits",
+        "a mode waits until WriteE2 has programmed everything",
+        "a mode has hold at once over a programming that the other one stops",
+        "a 1 written during a leaving waits for a programming that stands still",
+        "bytes that wait are not latched as a mode takes hold",
+        "a mode that waits is off where WriteE2 meets block 0",
+        "the clocks of an advance behind the taking of hold reach the timer",
+        "the clocks of an advance behind the end of a leaving are lost",
+        "StandBy is left by the clocks that PowerDown lets through",
+        "a write that sets one power bit does not clear the other",
+        "a write of FlushFIFO alone does not clear the power bits",
+        "a power bit reads 0 while its mode is being left",
+        "E2Ready is 1 while a programming stands still",
+        "a Command write acts over a programming that stands still",
+        "a flush does nothing in a mode",
+        "TStopNow does nothing in a mode",
+        "TStartNow does nothing in a mode",
+        "a take is not refused while a mode is being left",
+        "a delivery is not refused while a mode is being left",
+        "takes and deliveries are refused in PowerDown alone",
+        "refusal 4 for a mode goes before 5 and 6",
+        "the end of a leaving sets IdleIRq",
+        "a start keeps a mode in hold",
+        "a power bit without hold and without a programming is well formed",
+        "a power bit without hold is well formed where WriteE2 is active",
+        "a power bit without hold is malformed over a programming too",
+        "a hold without its bit is well formed",
+        "a leaving without its hold is well formed",
+        "a leaving with one clock too many to go is well formed",
+        "a leaving that has just begun is malformed",
+        "StandBy may have 512 clocks to go",
+        "a hold over a programming of which clocks have passed is malformed",
         "the profile check tests a bit that is fixed at 1 for 0",
         "the profile check goes by the lowest bit of an edition's number above 1",
         "the profile check judges the edition's number before the length",
@@ -509,6 +601,58 @@ impl Command {
     }
 }
 
+// ---- Power modes -----------------------------------------------------------------------------------------------------------------------
+
+/// What stands behind a power bit of Control. The bit reads 0 when the mode is off, and else 1.
+#[derive(Clone, Copy, PartialEq, Eq, Debug, Default)]
+pub enum Mode {
+    #[default]
+    Off,
+    /// Set over a programming, at whose end it takes hold.
+    Waiting,
+    /// In hold: no clock reaches timer or programming.
+    Held,
+    /// Still in hold, for so many clocks more, at least one.
+    Leaving { to_go: u16 },
+}
+
+impl Mode {
+    #[inline]
+    pub fn holds(self) -> bool {
+        matches!(self, Mode::Held | Mode::Leaving { .. })
+    }
+
+    /// After a write of its bit. A programming may run or stand still; `whole` is what a leaving takes.
+    #[inline]
+    fn written(self, bit: bool, programs: bool, whole: u16) -> Self {
+        match (self, bit) {
+            (Mode::Off, true) if programs => Mode::Waiting,
+            (Mode::Off, true) => Mode::Held,
+            (Mode::Waiting, false) => Mode::Off,
+            (Mode::Held, false) => Mode::Leaving { to_go: whole },
+            (Mode::Leaving { .. }, true) => Mode::Held,
+            (Mode::Off, false) | (Mode::Waiting, true) | (Mode::Held, true) | (Mode::Leaving { .. }, false) => self,
+        }
+    }
+
+    /// After so many clocks in which no programming ends.
+    fn given(self, clocks: u32) -> Self {
+        match self {
+            Mode::Leaving { to_go } if clocks >= to_go.into() => Mode::Off,
+            Mode::Leaving { to_go } => Mode::Leaving { to_go: to_go - clocks as u16 },
+            _ => self,
+        }
+    }
+
+    /// After the end of a programming.
+    fn programming_ended(self) -> Self {
+        match self {
+            Mode::Waiting => Mode::Held,
+            _ => self,
+        }
+    }
+}
+
 // ---- The chip --------------------------------------------------------------------------------------------------------------------------
 
 /// The chip.
@@ -533,8 +677,10 @@ pub struct FaultyChip<const FAULT: u8> {
     pub errors: u8,
     /// Bytes lost since the latest flush or start; at its limit it stays. Any is well formed, whatever FIFOOvfl is.
     pub lost_sum: u16,
-    /// Control (09h), of which bits 5 and 4 are stored.
-    pub control: u8,
+    /// StandBy and PowerDown: all that Control (09h) shows.
+    pub modes: [Mode; 2],
+    /// What a planted fault keeps of a leaving, for each mode; the chip without a fault has no use for it.
+    pub halted: [u16; 2],
     pub rx_last_bits: u8,
     /// BitFraming (0Fh).
     pub bit_framing: u8,
@@ -584,7 +730,8 @@ impl<const FAULT: u8> FaultyChip<FAULT> {
             requests: 0,
             errors: error::KEY,
             lost_sum: 0,
-            control: 0,
+            modes: [Mode::Off; 2],
+            halted: [0; 2],
             rx_last_bits: 0,
             bit_framing: 0,
             key: None,
@@ -611,11 +758,20 @@ impl<const FAULT: u8> FaultyChip<FAULT> {
             }
             _ => true,
         };
-        let zeros =
-            (self.enables | self.requests) & 0xC0 | self.errors & 0x85 | self.page & 0x78 | self.control & 0xCF | self.rx_last_bits & 0xF8;
+        let zeros = (self.enables | self.requests) & 0xC0 | self.errors & 0x85 | self.page & 0x78 | self.rx_last_bits & 0xF8;
         let checksum = !self.checksum.is_8_bits() || self.checksum.value < 0x100;
         let edition = self.eeprom[..4] == self.edition.type_bytes();
-        self.fifo.held() <= self.command.waits() && timer && writing && zeros == 0 && checksum && edition
+        let well_formed = self.fifo.held() <= self.command.waits() && timer && writing && zeros == 0 && checksum && edition;
+        well_formed && (self.is_awake() || self.modes_well_formed())
+    }
+
+    #[inline(never)] // so that a chip with both modes off does not pay for it
+    fn modes_well_formed(&self) -> bool {
+        self.modes.iter().zip(power::LEAVING).all(|(mode, whole)| match mode {
+            Mode::Off | Mode::Held => true,
+            Mode::Waiting => self.command.programs(),
+            Mode::Leaving { to_go } => (1..=whole).contains(to_go),
+        })
     }
 
     /// A start: from whatever the chip was to a fresh one with this image.
@@ -624,10 +780,13 @@ impl<const FAULT: u8> FaultyChip<FAULT> {
             self.edition = Edition::of_image(image).unwrap_or(self.edition);
         }
         let (eeprom, edition) = Self::judged(image)?;
-        let sum = self.lost_sum;
+        let (sum, modes) = (self.lost_sum, self.modes);
         *self = Self::fresh(eeprom, edition);
         if FAULT == fault::START_LEAVES_SUM {
             self.lost_sum = sum;
+        }
+        if FAULT == fault::START_KEEPS_A_MODE {
+            self.modes = modes.map(|mode| if mode == Mode::Held { mode } else { Mode::Off });
         }
         Ok(())
     }
@@ -654,12 +813,12 @@ impl<const FAULT: u8> FaultyChip<FAULT> {
             }
             0x04 => self.fifo.held(),
             0x05 => {
-                let ready = !self.command.programs();
+                let ready = !self.command.programs() || FAULT == fault::READY_WHILE_STANDING_STILL && self.holds();
                 u8::from(self.timer.run.is_some()) << 7 | u8::from(ready) << 6 | 1 << 5 | self.rx_last_bits
             }
             0x06 => self.enables,
             0x07 => self.requests,
-            0x09 => self.control,
+            0x09 => self.control(),
             0x0A => self.errors,
             0x0C => self.timer.value,
             0x0D => self.checksum.result() as u8,
@@ -709,22 +868,50 @@ impl<const FAULT: u8> FaultyChip<FAULT> {
         Ok(lost)
     }
 
-    /// An advance by clocks of 13.56 MHz. The timer and the programming see nothing of each other, so each jumps by itself.
+    /// An advance by clocks of 13.56 MHz. With both power modes off the timer and the programming see nothing of each other, so each jumps by itself.
     #[inline]
     pub fn advance(&mut self, clocks: u32) -> Result<(), Refusal> {
         let before = self.alerts();
-        self.advance_timer(clocks);
-        self.advance_programming(clocks);
+        if self.is_awake() {
+            self.advance_timer(clocks);
+            self.advance_programming(clocks);
+        } else {
+            self.advance_in_modes(clocks);
+        }
         self.raise_alerts(before);
         Ok(())
     }
 
+    /// One clock by the words of the rules, to hold the jumps of `advance` to.
+    #[cfg(test)]
+    pub fn clock(&mut self) {
+        let before = self.alerts();
+        let reaches = !self.holds();
+        let ends = reaches && matches!(self.command, Command::WriteE2(Writing::Programming { left: 1, .. }));
+        if reaches {
+            self.advance_timer(1);
+            self.advance_programming(1);
+        }
+        self.modes = self.modes.map(|mode| match mode {
+            Mode::Off => Mode::Off,
+            Mode::Waiting if ends => Mode::Held,
+            Mode::Waiting => Mode::Waiting,
+            Mode::Held => Mode::Held,
+            Mode::Leaving { to_go: 1 } => Mode::Off,
+            Mode::Leaving { to_go } => Mode::Leaving { to_go: to_go - 1 },
+        });
+        self.raise_alerts(before);
+    }
+
     /// A take of the frame that the chip sends: all held bytes, and the CRC if there is to be one.
     pub fn take(&mut self, buffer: &mut [u8]) -> Result<Taken, Refusal> {
+        if FAULT == fault::MODE_REFUSED_BEFORE_5_AND_6 && self.holds() {
+            return Err(Refusal::NotSendingOrReceiving);
+        }
         if buffer.len() < TAKE_BUFFER {
             return Err(Refusal::BufferUnder66Bytes);
         }
-        if !self.command.sends() || self.fifo.held() == 0 {
+        if !self.command.sends() || self.fifo.held() == 0 || self.refuses_frames(FAULT == fault::TAKE_IN_A_LEAVING) {
             return Err(Refusal::NotSendingOrReceiving);
         }
         let before = self.alerts();
@@ -763,10 +950,13 @@ impl<const FAULT: u8> FaultyChip<FAULT> {
     /// A delivery of a frame that the chip receives: its bytes, the parity bit of each, and how many bits of the last byte count (0: all). Answers how
     /// many bytes were lost; a CRC that is dropped is not offered.
     pub fn deliver(&mut self, bytes: &[u8], parities: &[u8], last_bits: u8) -> Result<u8, Refusal> {
+        if FAULT == fault::MODE_REFUSED_BEFORE_5_AND_6 && self.holds() {
+            return Err(Refusal::NotSendingOrReceiving);
+        }
         if bytes.is_empty() || bytes.len() > 64 || parities.len() != bytes.len() || parities.iter().any(|&bit| bit > 1) || last_bits > 7 {
             return Err(Refusal::FrameMalformed);
         }
-        if !self.command.receives() {
+        if !self.command.receives() || self.refuses_frames(FAULT == fault::DELIVERY_IN_A_LEAVING) {
             return Err(Refusal::NotSendingOrReceiving);
         }
         let before = self.alerts();
@@ -864,25 +1054,97 @@ impl<const FAULT: u8> FaultyChip<FAULT> {
     }
 
     fn write_control(&mut self, byte: u8) {
-        self.control = byte & 0x30;
-        if byte & 1 != 0 {
+        let acts = |idle: u8| FAULT != idle || !self.holds();
+        let (flushes, stops, starts) =
+            (acts(fault::NO_FLUSH_IN_A_MODE), acts(fault::NO_STOP_IN_A_MODE), acts(fault::NO_START_OF_THE_TIMER_IN_A_MODE));
+        self.write_modes(byte);
+        if byte & 1 != 0 && flushes {
             self.fifo.clear();
             self.errors &= !error::OVERFLOW;
             if FAULT != fault::FLUSH_LEAVES_SUM {
                 self.lost_sum = 0;
             }
         }
-        if byte & 4 != 0 {
+        if byte & 4 != 0 && stops {
             self.timer.run = None;
         }
-        if byte & 2 != 0 {
+        if byte & 2 != 0 && starts {
             self.start_timer();
         }
     }
 
+    /// Each power bit by itself, from its state before the write.
+    #[inline]
+    fn write_modes(&mut self, byte: u8) {
+        if FAULT == fault::FLUSH_ALONE_LEAVES_MODES && byte & 0x37 == 1 {
+            return;
+        }
+        let programs = match FAULT {
+            fault::HOLD_AT_THE_WRITE => false,
+            fault::STANDING_STILL_IS_NO_PROGRAMMING => self.command.programs() && !self.holds(),
+            _ => self.command.programs(),
+        };
+        for (place, mode) in self.modes.iter_mut().enumerate() {
+            let bit = byte & power::BITS[place] != 0;
+            let whole = power::LEAVING[place];
+            *mode = match (FAULT, *mode, bit) {
+                (fault::ZERO_BESIDE_A_ONE_IS_IGNORED, before, false) if byte & 0x30 != 0 => before,
+                (fault::ZERO_BEGINS_A_LEAVING_ANEW, Mode::Leaving { .. }, false) => Mode::Leaving { to_go: whole },
+                (fault::WAITING_IS_NOT_CANCELLED, Mode::Waiting, false) => Mode::Waiting,
+                (fault::WAITING_IS_LEFT, Mode::Waiting, false) => Mode::Leaving { to_go: whole },
+                (fault::ONE_IN_A_LEAVING_WAITS, Mode::Leaving { .. }, true) if programs => Mode::Waiting,
+                (fault::ONE_HALTS_A_LEAVING, Mode::Leaving { to_go }, true) => {
+                    self.halted[place] = to_go;
+                    Mode::Held
+                }
+                (fault::ONE_HALTS_A_LEAVING, Mode::Held, false) if self.halted[place] > 0 => {
+                    Mode::Leaving { to_go: std::mem::take(&mut self.halted[place]) }
+                }
+                (_, before, bit) => before.written(bit, programs, whole),
+            };
+        }
+        if let (fault::LEAVINGS_SHARE_A_COUNT, [Mode::Leaving { to_go: one }, Mode::Leaving { to_go: other }]) = (FAULT, self.modes) {
+            self.modes = [Mode::Leaving { to_go: one.max(other) }; 2];
+        }
+    }
+
+    /// Control as it reads.
+    #[inline]
+    pub fn control(&self) -> u8 {
+        let reads = |mode: Mode| mode != Mode::Off && !(FAULT == fault::BIT_READS_0_IN_A_LEAVING && matches!(mode, Mode::Leaving { .. }));
+        let [stand_by, power_down] = self.modes.map(reads);
+        u8::from(stand_by) << 5 | u8::from(power_down) << 4
+    }
+
+    /// Both modes are off.
+    #[inline]
+    fn is_awake(&self) -> bool {
+        self.modes.iter().all(|mode| *mode == Mode::Off)
+    }
+
+    /// A mode has hold, so that no clock reaches timer or programming.
+    #[inline]
+    pub fn holds(&self) -> bool {
+        self.modes.iter().any(|mode| mode.holds())
+    }
+
+    /// A programming stands still of which clocks have passed: no list of calls leads there, for a mode takes hold without one, or as one begins.
+    pub fn stands_begun(&self) -> bool {
+        let begun = matches!(self.command, Command::WriteE2(Writing::Programming { left, .. }) if left < PROGRAMMING_CLOCKS);
+        begun && self.holds()
+    }
+
+    /// A mode has frames refused. Only a fault lets those pass that come while it is being left.
+    #[inline]
+    fn refuses_frames(&self, leaving_passes: bool) -> bool {
+        let refuses = |mode: Mode| if leaving_passes { mode == Mode::Held } else { mode.holds() };
+        let [stand_by, power_down] = self.modes.map(refuses);
+        stand_by && FAULT != fault::FRAMES_IN_STAND_BY || power_down
+    }
+
     /// Answers how many bytes the command loses at once.
     fn write_command(&mut self, code: u8) -> u8 {
-        if self.command.programs() {
+        if self.command.programs() && !(FAULT == fault::COMMAND_WHILE_STANDING_STILL && self.holds()) {
             if FAULT == fault::IGNORED_COMMAND_CLEARS_ERRORS {
                 self.errors &= !(error::ACCESS | error::CRC | error::PARITY);
             }
@@ -958,6 +1220,66 @@ impl<const FAULT: u8> FaultyChip<FAULT> {
         };
     }
 
+    /// Clocks from one happening to the next: the end of a leaving, and the end of a programming for which a mode waits.
+    #[inline(never)] // so that an advance with both modes off does not pay for it
+    fn advance_in_modes(&mut self, mut clocks: u32) {
+        while clocks > 0 {
+            clocks -= if self.holds() { self.hold_back(clocks) } else { self.let_through(clocks) };
+        }
+    }
+
+    /// Clocks that reach neither timer nor programming, up to the end of a leaving. Answers how many those are.
+    fn hold_back(&mut self, clocks: u32) -> u32 {
+        let [_, power_down] = self.modes;
+        let counts = |place| FAULT != fault::LEAVING_BY_CLOCKS_LET_THROUGH || place == power::POWER_DOWN || !power_down.holds();
+        let mut part = clocks;
+        for (place, mode) in self.modes.into_iter().enumerate() {
+            if let Mode::Leaving { to_go } = mode {
+                part = if counts(place) { part.min(to_go.into()) } else { part };
+            }
+        }
+        let before = self.modes;
+        for (place, mode) in self.modes.iter_mut().enumerate() {
+            *mode = if counts(place) { mode.given(part) } else { *mode };
+        }
+        if FAULT == fault::LEAVING_SETS_A_REQUEST && self.modes.iter().zip(before).any(|(mode, before)| before.holds() && !mode.holds()) {
+            self.requests |= request::IDLE;
+        }
+        if FAULT == fault::LAST_CLOCK_OF_A_LEAVING_COUNTS && !self.holds() {
+            self.advance_timer(1);
+            self.advance_programming(1);
+        }
+        if FAULT == fault::ONE_HAPPENING_IN_AN_ADVANCE {
+            return clocks;
+        }
+        part
+    }
+
+    /// Clocks that reach timer and programming, up to the end of a programming for which a mode waits: it takes hold behind that clock. Answers how
+    /// many those are.
+    fn let_through(&mut self, clocks: u32) -> u32 {
+        let waits = self.modes.contains(&Mode::Waiting);
+        let end = match self.command {
+            Command::WriteE2(Writing::Programming { left, .. }) if waits && left <= clocks => Some(left),
+            _ => None,
+        };
+        let part = end.unwrap_or(clocks);
+        match FAULT {
+            fault::WAITING_STOPS_THE_TIMER if waits => {}
+            fault::TIMER_MISSES_THE_END if end.is_some() => self.advance_timer(part - 1),
+            fault::CLOCKS_BEHIND_THE_HOLD_COUNT => self.advance_timer(clocks),
+            _ => self.advance_timer(part),
+        }
+        self.advance_programming(part);
+        if end.is_some() && !(FAULT == fault::WAITING_FOR_EVERY_BATCH && self.command.programs()) {
+            self.modes = self.modes.map(Mode::programming_ended);
+        }
+        if FAULT == fault::BLOCK_0_CANCELS_A_MODE && end.is_some() && self.command == Command::Idle {
+            self.modes = [Mode::Off; 2];
+        }
+        part
+    }
+
     fn advance_timer(&mut self, clocks: u32) {
         let Some(run) = &mut self.timer.run else { return };
         let phase = u64::from(run.phase) + u64::from(clocks);
@@ -998,6 +1320,9 @@ impl<const FAULT: u8> FaultyChip<FAULT> {
             self.command = Command::WriteE2(Writing::Ready { next });
             if self.fifo.held() == 0 || FAULT == fault::TX_REQUEST_AT_EVERY_PROGRAMMING {
                 self.requests |= request::TX;
+            }
+            if FAULT == fault::BATCH_BEHIND_THE_HOLD_IS_NOT_LATCHED && self.modes.contains(&Mode::Waiting) {
+                return;
             }
             // WriteE2 offers nothing, so nothing is lost.
             self.work();

@@ -5,9 +5,9 @@
 //! is not inlined into the loop, on a chip that stays where it lies. A figure is the least of many rounds, since a busy machine only adds.
 
 use crate::answer;
-use crate::chip_memory::{Memory, SIZE};
+use crate::chip_memory::{number_of, Memory, SIZE};
 use crate::library as lib;
-use crate::plain::{Chip, Edition, Refusal};
+use crate::plain::{power, Chip, Edition, Mode, Refusal};
 use crate::recorded::{recorded, Access};
 use crate::registers::*;
 use std::hint::black_box;
@@ -33,7 +33,12 @@ trait Bench {
     fn lost_sum(&mut self) -> u32;
     /// Empties the FIFO without an event.
     fn empty(&mut self);
+    /// Begins a leaving of StandBy without an event.
+    fn leave(&mut self);
 }
+
+/// StandBy as a write of 0 leaves it.
+const LEFT: Mode = Mode::Leaving { to_go: power::LEAVING[power::STAND_BY] };
 
 impl Bench for Memory {
     // Safety, of all seven: the chip and the slices are lent for the call alone, each with its own length.
@@ -61,6 +66,10 @@ impl Bench for Memory {
     fn empty(&mut self) {
         let chip = self.chip_mut();
         chip.fifo_read = chip.fifo_write;
+    }
+    fn leave(&mut self) {
+        let chip = self.chip_mut();
+        (chip.control, chip.stand_by) = (power::BITS[power::STAND_BY], number_of(LEFT));
     }
 }
 
@@ -95,6 +104,9 @@ impl Bench for Chip {
     }
     fn empty(&mut self) {
         self.fifo.clear();
+    }
+    fn leave(&mut self) {
+        self.modes[power::STAND_BY] = LEFT;
     }
 }
 
@@ -139,6 +151,9 @@ impl Bench for Judged {
     }
     fn empty(&mut self) {
         self.0.fifo.clear();
+    }
+    fn leave(&mut self) {
+        self.0.leave();
     }
 }
 
@@ -215,6 +230,15 @@ fn most_clocks<B: Bench>(chip: &mut B) -> u64 {
     (0..1000).map(|_| u64::from(chip.advance(black_box(u32::MAX)))).sum()
 }
 
+/// Advances over the end of a leaving of StandBy, by one clock that counts again.
+fn leavings<B: Bench>(chip: &mut B) -> u64 {
+    let advance = |_| {
+        chip.leave();
+        u64::from(chip.advance(black_box(5)))
+    };
+    (0..1000).map(advance).sum()
+}
+
 fn exchanges<B: Bench>(chip: &mut B) -> u64 {
     let mut buffer = [0; 66];
     let mut sum = 0;
@@ -267,11 +291,14 @@ macro_rules! line {
 const TIMER_RUNS: &[(u8, u8)] = &[(0x2C, 255), (0x2A, 0x26), (CONTROL, 0x02)];
 const TIMER_ENDS: &[(u8, u8)] = &[(0x2C, 1), (0x2A, 0x20), (CONTROL, 0x02)];
 
+/// The first of them, in PowerDown.
+const TIMER_STANDS: &[(u8, u8)] = &[(0x2C, 255), (0x2A, 0x26), (CONTROL, 0x12)];
+
 /// As many bytes as the FIFO holds.
 const FULL: &[(u8, u8)] = &[(FIFO_DATA, 0x55); 64];
 
 /// What is raced, beside the recorded mix; the numbers are how many calls, or clocks, a round has. The first is the driver's mix.
-const LINES: [Line; 17] = [
+const LINES: [Line; 19] = [
     line!("mix of host accesses: a command, its bytes, polls, the answer", 1000, &[], mix),
     line!("status poll (host read of PrimaryStatus)", 1000, &[], status_poll),
     line!("status poll while the chip receives", 1000, &[(COMMAND, 0x16)], status_poll),
@@ -287,6 +314,8 @@ const LINES: [Line; 17] = [
     line!("advance by 1,000 with the timer running", 1000, TIMER_RUNS, thousand_clocks),
     line!("advance by 1, the timer at its end with each clock", 1000, TIMER_ENDS, single_clocks),
     line!("advance by 4,294,967,295, the timer at its end with each clock", 1000, TIMER_ENDS, most_clocks),
+    line!("advance by 1 in PowerDown", 1000, TIMER_STANDS, single_clocks),
+    line!("advance by 5 over the end of a leaving of StandBy", 1000, TIMER_RUNS, leavings),
     line!("an exchange: four host writes, take and deliver, per exchange", 50, &[(CHANNEL_REDUNDANCY, 0x0F)], exchanges),
     line!("start from an image", 100, &[], starts),
 ];
@@ -402,7 +431,7 @@ fn timer_lap<B: Bench>(chip: &mut B) -> u64 {
 }
 
 /// The kinds of calls whose instructions tests/instructions counts, by the names that tests/instructions.c has, with the same calls.
-const COUNTED: [Line; 14] = [
+const COUNTED: [Line; 16] = [
     line!("driver-mix", 1000, &[], mix),
     line!("poll", 1000, &[], status_poll),
     line!("poll-receiving", 1000, &[(COMMAND, 0x16)], status_poll),
@@ -417,6 +446,8 @@ const COUNTED: [Line; 14] = [
     line!("advance-1000", 1000, TIMER_RUNS, thousand_clocks),
     line!("advance-end", 1000, TIMER_ENDS, single_clocks),
     line!("advance-most", 1000, TIMER_ENDS, most_clocks),
+    line!("advance-held", 1000, TIMER_STANDS, single_clocks),
+    line!("advance-left", 1000, TIMER_RUNS, leavings),
 ];
 
 /// Makes so many rounds of calls of one kind on a plain chip, `judging` or `judging-nothing`. Answers how many calls that were, if kind and chip are

@@ -4,7 +4,6 @@ pub const COMMAND: u8 = 0x01;
 pub const FIFO_DATA: u8 = 0x02;
 pub const PRIMARY_STATUS: u8 = 0x03;
 pub const FIFO_LENGTH: u8 = 0x04;
-#[cfg(test)]
 pub const SECONDARY_STATUS: u8 = 0x05;
 pub const INTERRUPT_RQ: u8 = 0x07;
 pub const CONTROL: u8 = 0x09;

@@ -2,8 +2,9 @@
 
 use crate::answer;
 use crate::call::Call;
-use crate::chip_memory::{NO_EDITION, OTHER_TYPE};
-use crate::plain::{error, request, Command, Edition, FaultyChip, Writing};
+use crate::chip_memory::{NOT_HELD, NO_BIT, NO_EDITION, NO_HOLD, OTHER_TYPE, OVER_COUNT};
+use crate::plain::{error, power, request, Command, Edition, FaultyChip, Mode, Writing};
+use crate::registers::{COMMAND, CONTROL};
 use std::fmt;
 
 const COMMANDS: [(u8, &str); 9] = [
@@ -27,8 +28,11 @@ pub struct Glance {
     lost_sum: u16,
     requests: u8,
     runs: bool,
-    reads_command_at: u8,
-    pages: bool,
+    page: u8,
+    held: u8,
+    modes: [Mode; 2],
+    /// A programming stands still of which clocks have passed.
+    begun: bool,
 }
 
 impl Glance {
@@ -40,16 +44,28 @@ impl Glance {
             lost_sum: chip.lost_sum,
             requests: chip.requests,
             runs: chip.timer.run.is_some(),
-            reads_command_at: chip.page & 7,
-            pages: chip.page & 0x80 != 0,
+            page: chip.page,
+            held: chip.fifo.held(),
+            modes: chip.modes,
+            begun: chip.stands_begun(),
         }
+    }
+
+    /// The byte, if the call is a write to this register, which is no Page.
+    fn written(&self, call: &Call, register: u8) -> Option<u8> {
+        let Call::Write { address, byte } = call else { return None };
+        let pages = self.page & 0x80 != 0;
+        let meant = if pages { address % 8 == register % 8 && self.page & 7 == register / 8 } else { *address == register };
+        (meant && *address < 64).then_some(*byte)
     }
 
     /// The code, if the call is a write to Command that counts.
     fn written_command(&self, call: &Call) -> Option<u8> {
-        let Call::Write { address, byte } = call else { return None };
-        let is_command = if self.pages { address % 8 == 1 && self.reads_command_at == 0 } else { *address == 1 };
-        (is_command && !self.command.programs()).then_some(byte & 0x3F)
+        self.written(call, COMMAND).filter(|_| !self.command.programs()).map(|byte| byte & 0x3F)
+    }
+
+    fn holds(&self) -> bool {
+        self.modes.iter().any(|mode| mode.holds())
     }
 }
 
@@ -76,6 +92,7 @@ pub struct Statistics {
     timer_restarts: u64,
     overflows: u64,
     pub losses: Losses,
+    pub modes: Modes,
     still_formed: u64,
     malformed: u64,
 }
@@ -159,6 +176,154 @@ impl fmt::Display for Losses {
     }
 }
 
+/// What can become of a power mode, by its state: in a write of Control that has its bit 1 or 0, and in an advance by at least one clock.
+pub const ROWS: [&str; 18] = [
+    "off, 1: in hold",
+    "off, 1 over a programming that runs: waits",
+    "off, 1 over a programming that stands still: waits",
+    "off, 0",
+    "off, clocks",
+    "waits, 1",
+    "waits, 0: off",
+    "waits, clocks before the programming's end",
+    "waits, clocks to the end of all: in hold",
+    "waits, clocks to the end of a batch before another: in hold",
+    "waits, clocks to the end before block 0: in hold",
+    "in hold, 1",
+    "in hold, 0: being left",
+    "in hold, clocks",
+    "being left, 1: in hold",
+    "being left, 0",
+    "being left, clocks, some to go",
+    "being left, clocks, off",
+];
+
+/// Power modes, on well-formed chips.
+#[derive(Default)]
+pub struct Modes {
+    /// How often each row was met, for StandBy and for PowerDown.
+    pub rows: [[u64; ROWS.len()]; 2],
+    /// Takes and deliveries that a mode alone has refused, in hold, and while every mode that is not off is being left.
+    pub takes: [u64; 2],
+    pub deliveries: [u64; 2],
+    /// Writes of Command that were ignored over a programming that stands still, and batches latched in hold by a write.
+    pub ignored: u64,
+    pub latched: u64,
+    /// Advances in a hold or into one while a timer runs, and advances in which both modes were left.
+    pub kept: u64,
+    pub both: u64,
+    /// Flushes, stops and starts of the timer in a hold.
+    pub controls: [u64; 3],
+    /// Accepted starts out of a mode that was not off.
+    pub started: u64,
+    /// Calls on programmings that stand still with clocks behind them, which no start leads to.
+    pub begun: u64,
+    /// Calls refused with 7 by each clause on modes.
+    pub refused: [u64; 4],
+}
+
+impl Modes {
+    fn count(&mut self, call: &Call, answer: u32, before: Glance, after: Glance) {
+        let accepted = answer & 0xFF == 0;
+        let add = |to: &mut u64, holds: bool| *to += u64::from(holds);
+        let holds = before.holds();
+        let programs = before.command.programs();
+        add(&mut self.begun, before.begun);
+        add(&mut self.started, accepted && matches!(call, Call::Start { .. }) && before.modes != [Mode::Off; 2]);
+        // A take or a delivery that nothing but a mode has refused.
+        let held = before.modes.contains(&Mode::Held);
+        let by_mode = holds && answer == 4;
+        add(&mut self.takes[usize::from(!held)], by_mode && matches!(call, Call::Take { .. }) && before.command.sends() && before.held > 0);
+        add(&mut self.deliveries[usize::from(!held)], by_mode && matches!(call, Call::Deliver { .. }) && before.command.receives());
+        let command = before.written(call, COMMAND).is_some();
+        add(&mut self.ignored, holds && programs && command);
+        add(&mut self.latched, holds && !programs && after.command.programs());
+        let control = before.written(call, CONTROL);
+        for (place, bit) in [1, 4, 2].into_iter().enumerate() {
+            add(&mut self.controls[place], holds && control.is_some_and(|byte| byte & bit != 0));
+        }
+        let clocks = match call {
+            Call::Advance { clocks } => *clocks,
+            _ => 0,
+        };
+        add(&mut self.kept, before.runs && clocks > 0 && (holds || after.holds()));
+        add(&mut self.both, before.modes.iter().all(|mode| mode.holds()) && clocks > 0 && after.modes == [Mode::Off; 2]);
+        for place in 0..2 {
+            let row = match control {
+                Some(byte) => row_of_write(before, place, byte & power::BITS[place] != 0),
+                None if clocks > 0 => row_of_clocks(before, after, place),
+                None => continue,
+            };
+            self.rows[place][row] += 1;
+        }
+    }
+}
+
+/// The row of a write of a power bit.
+fn row_of_write(before: Glance, place: usize, bit: bool) -> usize {
+    match (before.modes[place], bit) {
+        (Mode::Off, true) => match (before.command.programs(), before.holds()) {
+            (false, _) => 0,
+            (true, false) => 1,
+            (true, true) => 2,
+        },
+        (Mode::Off, false) => 3,
+        (Mode::Waiting, true) => 5,
+        (Mode::Waiting, false) => 6,
+        (Mode::Held, true) => 11,
+        (Mode::Held, false) => 12,
+        (Mode::Leaving { .. }, true) => 14,
+        (Mode::Leaving { .. }, false) => 15,
+    }
+}
+
+/// The row of clocks given, which bring a mode no further than from one state to the next.
+fn row_of_clocks(before: Glance, after: Glance, place: usize) -> usize {
+    match (before.modes[place], after.modes[place]) {
+        (Mode::Off, _) => 4,
+        (Mode::Waiting, Mode::Held) => match after.command {
+            Command::WriteE2(Writing::Programming { .. }) => 9,
+            Command::WriteE2(_) => 8,
+            _ => 10,
+        },
+        (Mode::Waiting, _) => 7,
+        (Mode::Held, _) => 13,
+        (Mode::Leaving { .. }, Mode::Off) => 17,
+        (Mode::Leaving { .. }, _) => 16,
+    }
+}
+
+impl fmt::Display for Modes {
+    fn fmt(&self, out: &mut fmt::Formatter<'_>) -> fmt::Result {
+        write!(out, "StandBy/PowerDown")?;
+        let [stand_by, power_down] = &self.rows;
+        for (place, row) in ROWS.iter().enumerate() {
+            write!(out, "{} {row} {}/{}", if place == 0 { "" } else { "," }, stand_by[place], power_down[place])?;
+        }
+        let ([takes, takes_left], [deliveries, deliveries_left]) = (self.takes, self.deliveries);
+        write!(out, "; refused with 4 by a mode alone in hold {takes} takes and {deliveries} deliveries, ")?;
+        write!(out, "being left {takes_left} and {deliveries_left}")?;
+        let [flushes, stops, starts] = self.controls;
+        write!(
+            out,
+            "; in a hold {flushes} flushes, {stops} stops and {starts} starts of the timer, {} batches latched by a write",
+            self.latched
+        )?;
+        write!(out, ", {} Command writes ignored", self.ignored)?;
+        write!(out, "; advances in a hold or into one while a timer runs {}, with both modes left {}", self.kept, self.both)?;
+        write!(
+            out,
+            "; starts out of a mode {}, calls on a programming that stands still with clocks behind it {}",
+            self.started, self.begun
+        )?;
+        let [not_held, no_bit, no_hold, over_count] = self.refused;
+        write!(
+            out,
+            "; 7 by the modes: no hold and no programming {not_held}, no bit {no_bit}, no hold {no_hold}, over the count {over_count}"
+        )
+    }
+}
+
 impl Statistics {
     /// Counts a call with what it answered. `malformed` is why the chip was malformed before it, if it was.
     pub fn count(&mut self, call: &Call, answer: u32, before: Option<Glance>, after: Option<Glance>, malformed: Option<&str>) {
@@ -188,6 +353,10 @@ impl Statistics {
         if let (7, Some(place)) = (refusal, [NO_EDITION, OTHER_TYPE].iter().position(|reason| malformed == Some(*reason))) {
             self.by_edition[place] += 1;
         }
+        let clauses = [NOT_HELD, NO_BIT, NO_HOLD, OVER_COUNT];
+        if let (7, Some(place)) = (refusal, clauses.iter().position(|reason| malformed == Some(*reason))) {
+            self.modes.refused[place] += 1;
+        }
         if let Some(before) = before {
             self.on[before.edition as usize] += 1;
         }
@@ -197,6 +366,7 @@ impl Statistics {
         }
         let (Some(before), Some(after)) = (before, after) else { return };
         self.losses.count(call, answer, before, after);
+        self.modes.count(call, answer, before, after);
         if event == 0 || refusal != 0 {
             return;
         }
@@ -223,11 +393,11 @@ impl Statistics {
             }
         }
         self.overflows += u64::from(errors & error::OVERFLOW != 0);
-        if let (Call::Advance { clocks }, Command::WriteE2(Writing::Programming { left, .. })) = (call, before.command) {
-            if *clocks >= left {
-                self.programmings += 1;
-                self.chained += u64::from(after.command.programs());
-            }
+        if let (Call::Advance { .. }, Command::WriteE2(Writing::Programming { next, .. })) = (call, before.command) {
+            // Another batch has another address behind it.
+            let ended = !matches!(after.command, Command::WriteE2(Writing::Programming { next: later, .. }) if later == next);
+            self.programmings += u64::from(ended);
+            self.chained += u64::from(ended && after.command.programs());
         }
         if event == 3 && after.requests & !before.requests & request::TIMER != 0 {
             self.timer_ends += 1;
@@ -255,7 +425,7 @@ impl fmt::Display for Statistics {
         write!(out, ", unknown codes {}", self.unknown)?;
         write!(out, "; programmings ended {}, {} of them into the next", self.programmings, self.chained)?;
         write!(out, "; timer ends {}, {} of them restarted", self.timer_ends, self.timer_restarts)?;
-        write!(out, "; overflows {}; {}", self.overflows, self.losses)?;
+        write!(out, "; overflows {}; {}; {}", self.overflows, self.losses, self.modes)?;
         write!(out, "; corruptions: {} malformed, {} not", self.malformed, self.still_formed)
     }
 }

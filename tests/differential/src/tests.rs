@@ -3,8 +3,13 @@
 use crate::answer;
 use crate::call::{parse, Call, Fill, Image};
 use crate::checksum::bit_by_bit;
-use crate::chip_memory::{difference, place_name, places_of, plain_of, store, Memory, FIELDS, NO_EDITION, OTHER_TYPE, SIZE};
-use crate::plain::{error, fault, key_of, request, stored_nibble, Chip, Command, Edition, Refusal, Taken, Writing, PROGRAMMING_CLOCKS};
+use crate::chip_memory::{
+    difference, number_of, place_name, places_of, plain_of, store, Memory, FIELDS, NOT_HELD, NO_BIT, NO_EDITION, NO_HOLD, OTHER_TYPE,
+    OVER_COUNT, SIZE,
+};
+use crate::plain::{
+    error, fault, key_of, request, stored_nibble, Chip, Command, Edition, Mode, Refusal, Run, Taken, Timer, Writing, PROGRAMMING_CLOCKS,
+};
 use crate::random::Random;
 use crate::registers::*;
 
@@ -668,6 +673,294 @@ fn sums_go_by_the_answers() {
     assert!(lost > 100_000, "{lost}");
 }
 
+// ---- Power modes -----------------------------------------------------------------------------------------------------------------------
+
+const LEAVING: [u16; 2] = [4, 512];
+const BITS: [u8; 2] = [0x20, 0x10];
+
+/// A started chip with a timer that falls with each clock, from 255 on, and restarts.
+fn chip_with_timer() -> Chip {
+    let mut chip = chip();
+    chip.set(0x2A, 0x20);
+    chip.set(0x2C, 255);
+    chip.set(CONTROL, 0x02);
+    chip
+}
+
+/// The same with a byte for 030h latched, and as many behind it.
+fn chip_that_programs(behind: usize) -> Chip {
+    let mut chip = chip_with_timer();
+    chip.run(0x01, &[0x30, 0x00, 0xEE]);
+    chip.fill(&vec![0xEF; behind]);
+    assert_eq!(chip.get(SECONDARY_STATUS), 0xA0);
+    chip
+}
+
+/// Every state of a mode before a write of its bit, with and without a programming, and after it; the other mode goes by itself.
+#[test]
+fn written_power_bits() {
+    for place in 0..2 {
+        let whole = LEAVING[place];
+        let left = |to_go| Mode::Leaving { to_go };
+        // Before, after a 1 without a programming and with one, after a 0.
+        let rows = [
+            (Mode::Off, Mode::Held, Mode::Waiting, Mode::Off),
+            (Mode::Waiting, Mode::Waiting, Mode::Waiting, Mode::Off),
+            (Mode::Held, Mode::Held, Mode::Held, left(whole)),
+            (left(1), Mode::Held, Mode::Held, left(1)),
+            (left(whole - 1), Mode::Held, Mode::Held, left(whole - 1)),
+            (left(whole), Mode::Held, Mode::Held, left(whole)),
+        ];
+        for programs in [false, true] {
+            for (before, one, one_over_programming, zero) in rows {
+                if before == Mode::Waiting && !programs {
+                    continue;
+                }
+                for (other, other_kept) in [(Mode::Off, Mode::Off), (Mode::Held, Mode::Held), (left(3), Mode::Held)] {
+                    for byte in 0..=255 {
+                        let mut chip = if programs { chip_that_programs(0) } else { chip() };
+                        (chip.modes[place], chip.modes[1 - place]) = (before, other);
+                        chip.set(CONTROL, byte);
+                        let after = match (byte & BITS[place] != 0, programs) {
+                            (true, false) => one,
+                            (true, true) => one_over_programming,
+                            (false, _) => zero,
+                        };
+                        assert_eq!(chip.modes[place], after, "{before:?} {byte:02X}h");
+                        if byte & BITS[1 - place] != 0 && other != Mode::Off {
+                            assert_eq!(chip.modes[1 - place], other_kept);
+                        }
+                    }
+                }
+            }
+        }
+    }
+}
+
+/// No call but a write of Control, an advance and a start changes a mode.
+#[test]
+fn other_calls_leave_the_modes() {
+    let mut buffer = [0; 66];
+    for modes in [[Mode::Held, Mode::Leaving { to_go: 7 }], [Mode::Leaving { to_go: 2 }, Mode::Off], [Mode::Waiting, Mode::Waiting]] {
+        let mut chip = chip_that_programs(3);
+        chip.modes = modes;
+        let control = chip.get(CONTROL);
+        for address in (0..0x40).filter(|address| *address != CONTROL) {
+            let mut chip = chip.clone();
+            chip.get(address);
+            for byte in 0..=255 {
+                chip.set(address, byte);
+                chip.set(0x00, 0x00);
+            }
+            assert_eq!((chip.modes, chip.get(CONTROL)), (modes, control), "{address:02X}h");
+        }
+        assert!(chip.take(&mut buffer).is_err() && chip.deliver(&[1], &[0], 0).is_err() && chip.start(&[0; 512]).is_err());
+        chip.pass(0);
+        assert_eq!(chip.modes, modes);
+        assert!(chip.well_formed());
+        chip.start(&numbered_image()).unwrap();
+        assert_eq!((chip.modes, chip.read(CONTROL)), ([Mode::Off; 2], Ok(0)));
+    }
+}
+
+/// The bit reads 1 until the last clock, and the clock behind it is the first that counts.
+#[test]
+fn counts_of_leavings() {
+    for (bits, clocks) in [(0x20u8, 4u32), (0x10, 512), (0x30, 512)] {
+        let mut chip = chip_with_timer();
+        chip.set(CONTROL, bits);
+        chip.pass(10_000);
+        chip.set(CONTROL, 0x00);
+        for clock in 1..=clocks + 1 {
+            let stand_by = if clock <= 4 { bits & 0x20 } else { 0 };
+            let power_down = if clock <= 512 { bits & 0x10 } else { 0 };
+            assert_eq!((chip.get(CONTROL), chip.get(TIMER_VALUE)), (stand_by | power_down, 255), "{bits:02X}h before clock {clock}");
+            chip.pass(1);
+        }
+        assert_eq!((chip.get(CONTROL), chip.get(TIMER_VALUE)), (0, 254));
+    }
+    // The greatest advance: 4,294,967,295 - 512 clocks count, which is 253 more than a multiple of 255.
+    let mut chip = chip_with_timer();
+    chip.set(CONTROL, 0x30);
+    chip.set(CONTROL, 0x00);
+    chip.pass(u32::MAX);
+    assert_eq!((chip.modes, chip.get(TIMER_VALUE), chip.get(INTERRUPT_RQ)), ([Mode::Off; 2], 2, request::TIMER));
+    assert_eq!((u32::MAX - 512) % 255, 253);
+}
+
+/// A bit that waits holds nothing back; the clock that ends the programming counts for the timer, and no later one does.
+#[test]
+fn holds_taken_at_the_end_of_a_programming() {
+    for (bits, behind, errors) in [(0x10, 0, 0), (0x20, 0, 0), (0x30, 1, 0), (0x20, 40, 0)] {
+        for at_once in [false, true] {
+            let mut chip = chip_that_programs(behind);
+            chip.set(INTERRUPT_RQ, 0x3F);
+            chip.set(CONTROL, bits);
+            let value = |clocks: u32| 255 - (clocks % 255) as u8;
+            if at_once {
+                chip.pass(u32::MAX);
+            } else {
+                chip.pass(PROGRAMMING_CLOCKS - 1);
+                assert_eq!((chip.get(CONTROL), chip.get(TIMER_VALUE)), (bits, value(PROGRAMMING_CLOCKS - 1)));
+                assert!(!chip.holds() && chip.eeprom[0x030] == 0);
+                chip.pass(1);
+                chip.pass(1);
+            }
+            assert!(chip.holds() && chip.eeprom[0x030] == 0xEE && chip.eeprom[0x031] == 0);
+            assert_eq!((chip.get(CONTROL), chip.get(TIMER_VALUE)), (bits, value(PROGRAMMING_CLOCKS)));
+            assert_eq!(chip.get(ERROR_FLAG) & error::ACCESS, errors);
+            let latched = behind.min(15);
+            let programs =
+                Command::WriteE2(Writing::Programming { next: 0x031 + latched as u16, latched: latched as u8, left: PROGRAMMING_CLOCKS });
+            let rests = Command::WriteE2(Writing::Ready { next: 0x031 });
+            assert_eq!(chip.command, if behind > 0 { programs } else { rests });
+            assert_eq!(chip.get(INTERRUPT_RQ) & request::TX != 0, behind == 0);
+            // The bit is cleared: a leaving, and the clocks that were kept.
+            chip.set(CONTROL, 0x00);
+            chip.pass(if bits == 0x20 { 4 } else { 512 });
+            assert_eq!((chip.modes, chip.get(TIMER_VALUE)), ([Mode::Off; 2], value(PROGRAMMING_CLOCKS)));
+            chip.pass(PROGRAMMING_CLOCKS - 1);
+            assert_eq!(chip.command.programs(), behind > 0);
+            chip.pass(1);
+            assert_eq!(chip.eeprom[0x031] == 0xEF, behind > 0);
+        }
+    }
+    // Block 0 behind the memory's end: the command ends, and the mode has hold.
+    let mut chip = chip_with_timer();
+    chip.run(0x01, &[0xFF, 0x01, 0xAA, 0xBB]);
+    chip.set(INTERRUPT_RQ, 0x3F);
+    chip.set(CONTROL, 0x10);
+    chip.pass(PROGRAMMING_CLOCKS + 9);
+    assert_eq!((chip.command, chip.modes), (Command::Idle, [Mode::Off, Mode::Held]));
+    assert_eq!((chip.get(ERROR_FLAG) & error::ACCESS, chip.get(INTERRUPT_RQ) & request::IDLE), (error::ACCESS, request::IDLE));
+    assert_eq!(chip.get(TIMER_VALUE), 255 - (PROGRAMMING_CLOCKS % 255) as u8);
+}
+
+/// A programming that stands still is one: E2Ready, Command writes and a second bit go by it.
+#[test]
+fn a_programming_that_stands_still() {
+    let mut chip = chip_with_timer();
+    chip.set(CONTROL, 0x10);
+    chip.run(0x01, &[0x30, 0x00, 0xEE]);
+    chip.errors |= error::CRC;
+    chip.pass(u32::MAX);
+    for code in [0x00, 0x01, 0x12, 0x3F] {
+        chip.set(COMMAND, code);
+        assert_eq!((chip.get(COMMAND), chip.get(SECONDARY_STATUS), chip.get(ERROR_FLAG) & error::CRC), (0x01, 0xA0, error::CRC));
+    }
+    chip.set(CONTROL, 0x30);
+    assert_eq!(chip.modes, [Mode::Waiting, Mode::Held]);
+    chip.set(CONTROL, 0x20);
+    chip.pass(512 + PROGRAMMING_CLOCKS - 1);
+    assert_eq!((chip.modes, chip.command.programs()), ([Mode::Waiting, Mode::Off], true));
+    chip.pass(1);
+    assert_eq!((chip.modes, chip.command.programs(), chip.eeprom[0x030]), ([Mode::Held, Mode::Off], false, 0xEE));
+    // One that is cleared again over it was never in hold.
+    let mut chip = chip_with_timer();
+    chip.set(CONTROL, 0x20);
+    chip.run(0x01, &[0x30, 0x00, 0xEE]);
+    chip.set(CONTROL, 0x30);
+    chip.set(CONTROL, 0x20);
+    assert_eq!(chip.modes, [Mode::Held, Mode::Off]);
+}
+
+/// Frames, by the state of either mode; 5 and 6 go before it. The refused call leaves the command.
+#[test]
+fn frames_in_modes() {
+    let mut buffer = [0; 66];
+    for (place, whole) in LEAVING.into_iter().enumerate() {
+        for (mode, refused) in
+            [(Mode::Off, false), (Mode::Held, true), (Mode::Leaving { to_go: whole }, true), (Mode::Leaving { to_go: 1 }, true)]
+        {
+            let mut chip = chip();
+            chip.run(0x1E, &[0x26]);
+            chip.modes[place] = mode;
+            assert_eq!(chip.take(&mut buffer[..65]), Err(Refusal::BufferUnder66Bytes));
+            assert_eq!(chip.take(&mut buffer).err(), refused.then_some(Refusal::NotSendingOrReceiving));
+            assert_eq!(chip.command, Command::Transceive { receiving: !refused });
+            chip.command = Command::Receive;
+            assert_eq!(chip.deliver(&[], &[], 0), Err(Refusal::FrameMalformed));
+            assert_eq!(chip.deliver(&[1], &[0], 0).err(), refused.then_some(Refusal::NotSendingOrReceiving));
+            assert_eq!(chip.command, if refused { Command::Receive } else { Command::Idle });
+        }
+    }
+}
+
+/// n clocks in modes are n times one clock, as the rules have one: near every end, and over several.
+#[test]
+fn clocks_one_by_one_in_modes() {
+    let mut random = Random::new(14);
+    let mut changed = [0; 3];
+    for round in 0..6_000 {
+        let mut chip = chip_with(&Image::whole(Fill::Keys, round, Edition::BOTH[(round % 2) as usize]).bytes());
+        chip.set(0x29, random.byte() & 0x0F);
+        chip.set(0x2A, random.of(&[0, 1, 2, 0x20, 0x21, 0x23]));
+        chip.set(0x2C, random.of(&[1, 2, 3, 7, 255]));
+        chip.set(CONTROL, random.of(&[0x02, 0x02, 0x00]));
+        if !random.one_in(4) {
+            let count = random.of(&[1, 2, 16, 17, 40]);
+            chip.run(0x01, &random.of(&[0x10u16, 0x1E, 0x1F0, 0x1E3, 0x1FF]).to_le_bytes());
+            chip.fill(&random.bytes(count));
+            if let Command::WriteE2(Writing::Programming { left, .. }) = &mut chip.command {
+                *left = 1 + random.below(30) as u32;
+            }
+        }
+        chip.modes = LEAVING.map(|whole| match random.below(5) {
+            0 if chip.command.programs() => Mode::Waiting,
+            0 | 1 => Mode::Held,
+            2 | 3 => Mode::Leaving { to_go: 1 + random.below(u64::from(whole.min(60))) as u16 },
+            _ => Mode::Off,
+        });
+        chip.set(INTERRUPT_RQ, 0x3F);
+        assert!(chip.well_formed());
+        let (mut single, mut by_the_rules) = (chip.clone(), chip.clone());
+        let clocks = random.below(140) as u32;
+        let before = chip.modes;
+        chip.advance(clocks).unwrap();
+        for _ in 0..clocks {
+            single.advance(1).unwrap();
+            by_the_rules.clock();
+        }
+        for (single, position) in [(single, round), (by_the_rules, round + 1)] {
+            let mut memory = Memory([0; SIZE]);
+            store(&single, position as u8, memory.chip_mut());
+            assert_eq!(difference(&chip, memory.chip(), memory.chip()), None);
+        }
+        for (before, after) in before.into_iter().zip(chip.modes) {
+            changed[0] += u32::from(before == Mode::Waiting && after == Mode::Held);
+            changed[1] += u32::from(before.holds() && after == Mode::Off);
+        }
+        changed[2] += u32::from(before.map(Mode::holds) == [true; 2] && !chip.holds());
+    }
+    assert!(changed.iter().all(|count| *count > 200), "{changed:?}");
+}
+
+/// What a remark of lists/power.txt begins with is what both chips answer: a byte, or the number of a refusal.
+#[test]
+fn remarks_of_the_power_list() {
+    let mut lines = include_str!("../lists/power.txt").lines();
+    let mut session = crate::session::Session::<0>::new(0);
+    let mut asserted = [0; 2];
+    while let Some(line) = lines.next() {
+        let mut text = line.to_string();
+        while text.starts_with("repeat") && !text.ends_with("end") {
+            text = [&text, lines.next().unwrap()].join("\n");
+        }
+        let list = parse(&text).unwrap();
+        if line.starts_with("memory") {
+            session = crate::session::Session::new(list.memory);
+        }
+        let answers: Vec<u32> = list.calls.iter().map(|call| session.perform(call).unwrap()).collect();
+        let word = line.split_once('#').and_then(|(_, remark)| remark.split([' ', ':']).find(|word| !word.is_empty())).unwrap_or("");
+        let byte = word.strip_suffix('h').and_then(|digits| u32::from_str_radix(digits, 16).ok());
+        if let (false, Some(wanted)) = (answers.is_empty(), byte.map(|byte| byte << 8).or(word.parse().ok())) {
+            assert_eq!(answers, [wanted], "{line}");
+            asserted[usize::from(byte.is_none())] += 1;
+        }
+    }
+    assert!(asserted[0] > 300 && asserted[1] > 40, "{asserted:?}");
+}
+
 // ---- Editions --------------------------------------------------------------------------------------------------------------------------
 
 /// A start goes by the length, and then by the first four bytes, all of them and no other.
@@ -873,12 +1166,12 @@ fn other_fields_are_judged() {
         "crc_register=FFFF",
         "crc_register=FF crc_mode=10",
         "crc_register=FFFF crc_mode=EF",
-        "interrupt_en=3F interrupt_rq=3F error_flag=7A page=87 control=30 rx_last_bits=7 key_loaded=1 bit_framing=FF",
+        "interrupt_en=3F interrupt_rq=3F error_flag=7A page=87 rx_last_bits=7 key_loaded=1 bit_framing=FF",
         "lost_sum=1",
         "lost_sum=FFFF",
         "lost_sum=FFFF error_flag=50",
         "error_flag=50",
-        "reserved_numbers=FFFFFFFFFFFF reserved_17=FFFFFFFFFFFFFF padding+0=FF padding+1=FF",
+        "reserved_number=FFFF reserved_17=FFFFFFFFFFFFFF padding+0=FF padding+1=FF",
     ];
     let malformed = [
         "timer_running=1",
@@ -908,6 +1201,92 @@ fn other_fields_are_judged() {
     ];
     well.iter().for_each(|fields| assert!(well_formed(fields), "{fields}"));
     malformed.iter().for_each(|fields| assert!(!well_formed(fields), "{fields}"));
+}
+
+/// A power bit, its hold and its clocks to go, for either mode beside any state of the other, with a programming and without (manual 10.3).
+#[test]
+fn the_modes_are_judged() {
+    let programming = "stage=41 latched=2 next_address=22 programming_left=5";
+    let write_e2 = "stage=41 next_address=22";
+    let names = ["stand_by", "power_down"];
+    for place in 0..2 {
+        let whole = LEAVING[place];
+        for (bit, number, alone, over_programming) in [
+            (0, 0, None, None),
+            (0, 0x8000, Some(NO_BIT), Some(NO_BIT)),
+            (0, 0x8001, Some(NO_BIT), Some(NO_BIT)),
+            (0, 0x8000 | whole, Some(NO_BIT), Some(NO_BIT)),
+            (0, 1, Some(NO_HOLD), Some(NO_HOLD)),
+            (0, whole, Some(NO_HOLD), Some(NO_HOLD)),
+            (0, 0x7FFF, Some(NO_HOLD), Some(NO_HOLD)),
+            (1, 0, Some(NOT_HELD), None),
+            (1, 1, Some(NOT_HELD), Some(NO_HOLD)),
+            (1, whole, Some(NOT_HELD), Some(NO_HOLD)),
+            (1, 0x7FFF, Some(NOT_HELD), Some(NO_HOLD)),
+            (1, 0x8000, None, None),
+            (1, 0x8001, None, None),
+            (1, 0x8000 | (whole - 1), None, None),
+            (1, 0x8000 | whole, None, None),
+            (1, 0x8000 | (whole + 1), Some(OVER_COUNT), Some(OVER_COUNT)),
+            (1, 0x8000 | (whole + 256), Some(OVER_COUNT), Some(OVER_COUNT)),
+            (1, 0x8000 | 0x4000, Some(OVER_COUNT), Some(OVER_COUNT)),
+            (1, 0xFFFF, Some(OVER_COUNT), Some(OVER_COUNT)),
+        ] {
+            for (other_bit, other_number) in [(0, 0), (1, 0x8000), (1, 0x8001)] {
+                let control = bit * BITS[place] + other_bit * BITS[1 - place];
+                let modes = format!("control={control:X} {}={number:X} {}={other_number:X}", names[place], names[1 - place]);
+                let reason = |fields: &str| plain_of::<{ fault::NONE }>(memory_with(&format!("{modes} {fields}")).chip()).err();
+                assert_eq!((reason(""), reason(write_e2), reason(programming)), (alone, alone, over_programming), "{modes}");
+            }
+        }
+    }
+    // What a memory says is what a chip has, and back.
+    for (bits, modes) in [
+        (0x00, [Mode::Off, Mode::Off]),
+        (0x20, [Mode::Waiting, Mode::Off]),
+        (0x30, [Mode::Held, Mode::Waiting]),
+        (0x30, [Mode::Leaving { to_go: 4 }, Mode::Leaving { to_go: 512 }]),
+        (0x10, [Mode::Off, Mode::Leaving { to_go: 1 }]),
+    ] {
+        let [stand_by, power_down] = modes.map(number_of);
+        let memory = memory_with(&format!("{programming} control={bits:X} stand_by={stand_by:X} power_down={power_down:X}"));
+        let mut chip: Chip = plain_of(memory.chip()).unwrap();
+        assert_eq!((chip.modes, chip.get(CONTROL)), (modes, bits));
+        assert!(chip.well_formed());
+    }
+    // The chip that judges itself in the race does so by the same rules.
+    for (modes, programs, wanted) in [
+        ([Mode::Waiting, Mode::Off], true, true),
+        ([Mode::Off, Mode::Waiting], false, false),
+        ([Mode::Held, Mode::Held], false, true),
+        ([Mode::Leaving { to_go: 4 }, Mode::Leaving { to_go: 512 }], true, true),
+        ([Mode::Leaving { to_go: 5 }, Mode::Off], true, false),
+        ([Mode::Off, Mode::Leaving { to_go: 513 }], false, false),
+        ([Mode::Leaving { to_go: 0 }, Mode::Off], false, false),
+    ] {
+        let mut chip = if programs { chip_that_programs(1) } else { chip() };
+        chip.modes = modes;
+        assert_eq!(chip.well_formed(), wanted, "{modes:?}");
+    }
+}
+
+/// A hold over a programming with any clocks left is well formed, though no call leads to fewer than all: it stands still, and goes on afterwards.
+#[test]
+fn a_begun_programming_in_hold() {
+    for left in [1, 3, 78_647, 78_648] {
+        let fields = format!("stage=41 latched=2 next_address=22 programming_left={left:X} latch[00h]=AA latch[01h]=BB");
+        let memory = memory_with(&format!("{fields} control=30 stand_by=8000 power_down=8003"));
+        let mut chip: Chip = plain_of(memory.chip()).unwrap();
+        chip.timer = Timer { value: 255, run: Some(Run { prescaler: 13, phase: 0 }) };
+        assert_eq!(chip.stands_begun(), left < 78_648);
+        chip.pass(u32::MAX);
+        chip.set(CONTROL, 0x00);
+        chip.pass(3 + left);
+        assert_eq!((chip.modes, chip.eeprom[0x020]), ([Mode::Off; 2], 0));
+        chip.pass(1);
+        assert_eq!((chip.eeprom[0x020..0x022].to_vec(), chip.command.programs()), (vec![0xAA, 0xBB], false));
+        assert_eq!(chip.timer.run.map(|run| u32::from(255 - chip.timer.value) << 13 | run.phase), Some(left));
+    }
 }
 
 /// The edition's number and the EEPROM's first four bytes: one edition's both, and nothing else; a chip of zeros is malformed by it.
@@ -972,6 +1351,46 @@ fn built_states_notice_wrong_judging() {
     noticed!(TYPE_BYTES_ARE_NOT_JUDGED EDITION_ABOVE_1_IS_WELL_FORMED SUM_WITHOUT_THE_FLAG_IS_REFUSED);
 }
 
+/// And the built states of power modes what the judging of these could.
+#[test]
+fn built_states_notice_wrongly_judged_modes() {
+    macro_rules! noticed {
+        ($($fault:ident)*) => {
+            $(assert!(crate::built::judged_in_modes::<{ fault::$fault }>().is_err(), stringify!($fault));)*
+        };
+    }
+    noticed!(WAITING_ALONE_IS_WELL_FORMED WAITING_BESIDE_WRITE_E2_IS_WELL_FORMED WAITING_IS_MALFORMED HOLD_WITHOUT_A_BIT_IS_WELL_FORMED);
+    noticed!(LEAVING_WITHOUT_A_HOLD_IS_WELL_FORMED ONE_CLOCK_TOO_MANY_IS_WELL_FORMED WHOLE_LEAVING_IS_MALFORMED STAND_BY_JUDGED_BY_512);
+    noticed!(HOLD_OVER_A_BEGUN_PROGRAMMING_IS_MALFORMED);
+    let states = crate::built::judged_in_modes::<{ fault::NONE }>().unwrap();
+    assert!(states.in_modes > 5_000 && states.begun > 2_000 && states.by_modes > 1_000_000);
+}
+
+/// Calls on built states notice what the power modes could have wrong in one call, or in clocks behind it.
+#[test]
+fn built_states_notice_wrong_modes() {
+    macro_rules! noticed {
+        ($($fault:ident)*) => {
+            $(assert!(crate::built::worked_in_modes::<{ fault::$fault }>().is_err(), stringify!($fault));)*
+        };
+    }
+    noticed!(LAST_CLOCK_OF_A_LEAVING_COUNTS LEAVINGS_SHARE_A_COUNT ZERO_BEGINS_A_LEAVING_ANEW HOLD_AT_THE_WRITE TIMER_MISSES_THE_END);
+    noticed!(WAITING_IS_NOT_CANCELLED WAITING_IS_LEFT WAITING_STOPS_THE_TIMER WAITING_FOR_EVERY_BATCH STANDING_STILL_IS_NO_PROGRAMMING);
+    noticed!(ONE_IN_A_LEAVING_WAITS BATCH_BEHIND_THE_HOLD_IS_NOT_LATCHED BLOCK_0_CANCELS_A_MODE CLOCKS_BEHIND_THE_HOLD_COUNT);
+    noticed!(ONE_HAPPENING_IN_AN_ADVANCE LEAVING_BY_CLOCKS_LET_THROUGH ZERO_BESIDE_A_ONE_IS_IGNORED FLUSH_ALONE_LEAVES_MODES);
+    noticed!(BIT_READS_0_IN_A_LEAVING READY_WHILE_STANDING_STILL COMMAND_WHILE_STANDING_STILL NO_FLUSH_IN_A_MODE NO_STOP_IN_A_MODE);
+    noticed!(NO_START_OF_THE_TIMER_IN_A_MODE TAKE_IN_A_LEAVING DELIVERY_IN_A_LEAVING FRAMES_IN_STAND_BY MODE_REFUSED_BEFORE_5_AND_6);
+    noticed!(LEAVING_SETS_A_REQUEST START_KEEPS_A_MODE);
+    assert!(crate::built::worked_in_modes::<{ fault::NONE }>().is_ok_and(|calls| calls > 100_000));
+}
+
+/// Clocks in parts go over holds that are taken and over leavings that end.
+#[test]
+fn clocks_in_parts_meet_modes() {
+    let advances = crate::clocks::in_parts(1, 4_000).unwrap();
+    assert!(advances.taken.into_iter().chain(advances.left).all(|count| count > 300), "{advances}");
+}
+
 /// Calls on built states notice what lost bytes and their sum could have wrong.
 #[test]
 fn built_states_notice_wrong_sums() {
@@ -1022,10 +1441,10 @@ fn planted_faults_are_noticed() {
 }
 
 /// Random lists meet again and again: both editions, their change, 22, and 7 because of the edition alone; bytes that are lost in every way, sums at
-/// their limit, cleared and left, and such as no start leads to.
+/// their limit, cleared and left, and such as no start leads to; every row of a power mode's table, and every clause of refusal 7 on modes.
 #[test]
 fn cases_are_met() {
-    let options = crate::Options { calls: 200_000, random: true, ..crate::Options::default() };
+    let options = crate::Options { calls: 300_000, random: true, ..crate::Options::default() };
     let Ok(statistics) = crate::run::<{ fault::NONE }>(&options) else { panic!("a difference") };
     assert!(statistics.on.iter().all(|calls| *calls > 60_000), "{statistics}");
     assert!(statistics.started.iter().all(|starts| *starts > 300) && statistics.changed > 150, "{statistics}");
@@ -1036,6 +1455,12 @@ fn cases_are_met() {
     assert!(losses.limit.iter().zip([300, 20, 0, 100]).all(|(calls, least)| *calls > least), "{statistics}");
     assert!(losses.cleared.iter().all(|calls| *calls > 60) && losses.left.iter().all(|calls| *calls > 300), "{statistics}");
     assert!(losses.apart.iter().all(|calls| *calls > 300), "{statistics}");
+    let modes = &statistics.modes;
+    assert!(modes.rows.iter().flatten().all(|calls| *calls > 20), "{statistics}");
+    assert!(modes.takes.iter().chain(&modes.deliveries).all(|calls| *calls > 20), "{statistics}");
+    assert!(modes.controls.iter().chain([&modes.ignored, &modes.latched]).all(|calls| *calls > 60), "{statistics}");
+    assert!(modes.kept > 1_000 && modes.both > 500 && modes.started > 30 && modes.begun > 60, "{statistics}");
+    assert!(modes.refused.iter().all(|calls| *calls > 40), "{statistics}");
 }
 
 /// The recorded mix is the list that docs/PERFORMANCE.md describes.

@@ -39,7 +39,11 @@ TurnsAgreeing f before after = (c : Chip) → Sizes (before c) → fieldsFormed 
 abbrev pub TurnsFormed : (Machine → Machine) → (Chip → Chip) → (Chip → Chip) → Type 0
 TurnsFormed f before after = (c : Chip) → Sizes (before c) → fieldsFormed (before c) ≡ true → Formed (view (before c)) → Turned f (before c) (after c)
 
--- The same where no power mode has hold.
+-- A function that reads a chip whose own fields agree.
+abbrev pub ReadsAgreeing : {A : Type 0} → (Machine → A) → (Chip → Chip) → A → Type 0
+ReadsAgreeing f lent r = (c : Chip) → fieldsFormed (lent c) ≡ true → r ≡ f (view (lent c))
+
+-- The machine turns so where no power mode has hold.
 abbrev pub TurnsReaching : (Machine → Machine) → (Chip → Chip) → (Chip → Chip) → Type 0
 TurnsReaching f before after =
     (c : Chip) → Sizes (before c) → fieldsFormed (before c) ≡ true → Formed (view (before c)) → standsStill (view (before c)) ≡ false → Turned f (before c) (after c)

@@ -6,11 +6,11 @@ ghost use lib.Dec.{eqb, leb};
 ghost use Rattle.machine.specs.Events.{clocks as Events·clocks};
 ghost use Rattle.event_clock_advance.specs.Clock.{clockedIn, TurnsFormed, TurnsReaching};
 use crate::modes::hold_taken;
+use crate::modes::stands_still;
 use crate::modes::stood;
 use crate::programming::programmed;
 use crate::timer::timer_clocked;
 use state::LEFT;
-use state::stands_still;
 
 // A programming with so many clocks left ends within so many.
 fn ends_within(left: u32, rest: u32) -> bool

@@ -4,17 +4,24 @@ ghost use mathlib.Core.Path.{_≡_};
 ghost use mathlib.Core.Bool.{true, false, cond};
 ghost use Rattle.machine.specs.WellFormedness.{Formed};
 ghost use Rattle.machine.specs.Power.{standsStill};
-ghost use Rattle.state.specs.View.{view};
+ghost use Rattle.state.specs.View.{view, withNumbers};
 ghost use Rattle.state.specs.Formed.{fieldsFormed};
 ghost use Rattle.state.specs.Lent.{numbersState};
 ghost use Rattle.state.specs.Turns.{Sizes, Turned};
 ghost use Rattle.state.specs.declared.Chip.{Chip};
-ghost use Rattle.event_clock_advance.specs.Clock.{holdTaken, standing, leftWithin, numberAfter, StoodBy};
+ghost use Rattle.event_clock_advance.specs.Clock.{ReadsAgreeing, holdTaken, standing, leftWithin, numberAfter, StoodBy};
 use state::CONTROL;
 use state::POWER_DOWN;
 use state::STAND_BY;
 use state::control_byte;
-use state::stands_still;
+use state::modes_word;
+
+// A power mode has hold: where the fields agree, only such a mode has a number above 0.
+pub fn stands_still(numbers: &[u16; 6]) -> bool
+    ensures { λ r. ⌜ ReadsAgreeing standsStill (withNumbers (now (numbers .entry))) r ⌝ }
+{
+    modes_word(numbers[STAND_BY], numbers[POWER_DOWN]) != 0
+}
 
 // How many of so many clocks begin while the mode of a number has hold.
 fn stands_for(number: u16, by: u32) -> u32

@@ -17,13 +17,15 @@ use frame_checks::crc_fails;
 use frame_checks::parity_fails;
 use frame_checks::passed_length;
 use frame_formed::frame_formed;
+use state::POWER_DOWN;
 use state::RX_LAST_BITS;
+use state::STAND_BY;
 use state::ended;
 use state::failed;
 use state::losing;
+use state::modes_word;
 use state::receives;
 use state::requested;
-use state::stands_still;
 use state_fifo::alerted;
 use state_fifo::alerts_of;
 use state_fifo::flag;
@@ -115,7 +117,7 @@ pub fn deliver<'a, 'b, 'c>(
     if !receives(state) {
         return 4;
     }
-    if stands_still(numbers) {
+    if modes_word(numbers[STAND_BY], numbers[POWER_DOWN]) != 0 {
         return 4;
     }
     let before = alerts_of(state, registers);

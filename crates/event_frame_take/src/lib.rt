@@ -13,10 +13,12 @@ ghost use Rattle.event_frame_take.specs.Front.{atFront, Put, checksumByt
 use frame_lengths::least;
 use sent::taken;
 use state::BIT_FRAMING;
+use state::POWER_DOWN;
 use state::READ;
+use state::STAND_BY;
 use state::frame_waits;
 use state::held;
-use state::stands_still;
+use state::modes_word;
 use state_formed::formed;
 
 mod sent; // sent.rt: what the chip is once its frame is taken
@@ -109,7 +111,7 @@ pub fn take<'a, 'b>(
     if !frame_waits(state) {
         return 4;
     }
-    if stands_still(numbers) {
+    if modes_word(numbers[STAND_BY], numbers[POWER_DOWN]) != 0 {
         return 4;
     }
     let last_bits = state[BIT_FRAMING] % 8;

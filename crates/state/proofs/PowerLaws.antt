@@ -56,6 +56,10 @@ stands-by-numbers c formed =
     either-not true b = refl
     either-not false b = refl
 
+-- As one word they are 0 where both are.
+pub stands-by-word : (c : Chip) (word : ℕ) → fieldsFormed c ≡ true → eqb word 0 ≡ (eqb (core c .standBy) 0 && eqb (core c .powerDown) 0) → not (eqb word 0) ≡ standsStill (view c)
+stands-by-word c word formed is = ap not is ∙ stands-by-numbers c formed
+
 -- Control and both numbers are stored, and the modes are what the three then say.
 pub modes-stored : (x : Modes) (control standBy powerDown : ℕ) (c : Chip) → Sizes c →
     record { standBy = modeOf (bitSet control 5) standBy; powerDown = modeOf (bitSet control 4) powerDown } ≡ x →

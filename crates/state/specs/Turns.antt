@@ -49,10 +49,6 @@ TurnsAllLosing f lost before after r = Sizes before → Turned f before after ×
 abbrev pub Reads : {A : Type 0} → (Machine → A) → (Chip → Chip) → A → Type 0
 Reads f lent r = (c : Chip) → r ≡ f (view (lent c))
 
--- The same of a function that reads a chip whose own fields agree.
-abbrev pub ReadsAgreeing : {A : Type 0} → (Machine → A) → (Chip → Chip) → A → Type 0
-ReadsAgreeing f lent r = (c : Chip) → fieldsFormed (lent c) ≡ true → r ≡ f (view (lent c))
-
 -- How many bytes the FIFO holds, from its positions, which are bytes.
 pub record Counts (read write count : ℕ) : Type 0 where
   pub counted : count ≡ heldCount read write

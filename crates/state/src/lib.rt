@@ -5,11 +5,10 @@
 ghost use mathlib.Core.Path.{_≡_};
 ghost use mathlib.Core.Bool.{_&&_};
 ghost use lib.Dec.{eqb};
-ghost use Rattle.state.specs.View.{withNumbers, withState, raised, marked, unmarked};
+ghost use Rattle.state.specs.View.{withState, raised, marked, unmarked};
 ghost use Rattle.state.specs.Lent.{clocksState};
-ghost use Rattle.state.specs.Turns.{Turns, Reads, ReadsAgreeing, Counts, Holds, ControlIs};
+ghost use Rattle.state.specs.Turns.{Turns, Reads, Counts, Holds, ControlIs};
 ghost use Rattle.machine.specs.Commands.{programs as Commands·programs, ended as Commands·ended};
-ghost use Rattle.machine.specs.Power.{standsStill};
 ghost use Rattle.machine.specs.Frames.{receiving, frameWaits};
 ghost use Rattle.machine.specs.Events.{lost as Events·lost};
 ghost use Rattle.state.specs.Meets.{coded};
@@ -109,18 +108,11 @@ pub fn programs(clocks: &[u32; 2], state: &[u8; 24]) -> bool
     (stage == 0x01) | (stage == 0x41)
 }
 
-// The numbers of the two power modes as one word. That the two are of 16 bits is known of parameters by value, and not of elements that are loaded.
+// The numbers of the two power modes as one word: in a well-formed chip, of a number above 0 where one of them has hold. That the two are of 16 bits is known of parameters by value, and not of elements that are loaded.
 pub fn modes_word(low: u16, high: u16) -> u32
     ensures { λ r. ⌜ eqb r 0 ≡ (eqb low 0 && eqb high 0) ⌝ }
 {
     high as u32 * 0x1_0000 + low as u32
-}
-
-// A power mode has hold: where the fields agree, only such a mode has a number above 0.
-pub fn stands_still(numbers: &[u16; 6]) -> bool
-    ensures { λ r. ⌜ ReadsAgreeing standsStill (withNumbers (now (numbers .entry))) r ⌝ }
-{
-    modes_word(numbers[STAND_BY], numbers[POWER_DOWN]) != 0
 }
 
 // Control, from the bits of StandBy and PowerDown.

@@ -1,6 +1,6 @@
 -- `event_frame_deliver::deliver` meets its contract, by the refusals in their order. Assumes nothing.
 use borrow.Author.Needs.{needs}
-use borrow.Author.Tests.{not-true, not-false}
+use borrow.Author.Tests.{eq-eqb, ne-eqb, not-true, not-false}
 use denote.Ref.{now}
 use Prim.Native.Nat.{ℕ}
 use native.Mathlib.Omega.{arith}
@@ -18,6 +18,7 @@ use Rattle.state.specs.Meets.{coded, chipRefusal, Whole}
 use Rattle.state.specs.declared.Chip.{Chip}
 use Rattle.state.proofs.TurnLaws.{then}
 use Rattle.state.proofs.MeetLaws.{refused, malformed, deliver-unformed, deliver-judged, own-fields-formed, accepted-here}
+use Rattle.state.proofs.PowerLaws.{stands-by-word}
 use Rattle.state.proofs.ByteLaws.{known-bytes}
 use Rattle.event_frame_deliver.proofs.DeliverLaws.{frame-delivered, few-bytes}
 use Rattle.event_frame_deliver.proofs.deliver.Statement.{statement}
@@ -66,7 +67,7 @@ entered past = start (past .before .before)
 cast-losing : tie.Need-cast-losing
 cast-losing c =
     let receives = c .before .before in
-    let past = receives .before .before .before .before .before .before .before .before .before .before .before .before .before in
+    let past = receives .before .before .before .before .before .before .before .before .before .before .before .before .before .before in
     let a = entered past .args in
     let few = few-bytes (now (a .bytes)) (now (a .parities)) (a .last-bits) (sym (past .before .frame-formed .ensures) ∙ not-false _ (past .if2 .left)) in
     record { fits = omega (arith, receives .received .ensures .1, few) }
@@ -100,18 +101,24 @@ returns-3 c chip whole =
     let old = at-entry (entered past) chip in
     refused old (called (entered past)) 3 (number past chip whole false _ (sym (c .before .receives .ensures old) ∙ not-true _ (c .if3 .taken)) refl .0) whole
 
-stands-still-requires : tie.Need-stands-still-requires
-stands-still-requires c κs = search needs
+element-copy-out-modes-word : tie.Need-element-copy-out-modes-word
+element-copy-out-modes-word c = search needs
+
+element-copy-out-modes-word-2 : tie.Need-element-copy-out-modes-word-2
+element-copy-out-modes-word-2 c = search needs
+
+modes-word-requires : tie.Need-modes-word-requires
+modes-word-requires c κs = search needs
 
 returns-4 : tie.Need-returns-4
 returns-4 c chip whole =
     let asked = c .before in
-    let tested = asked .before .before in
+    let tested = asked .before .before .before in
     let past = tested .before .before .before in
     let old = at-entry (entered past) chip in
     refused old (called (entered past)) 3
     (number past chip whole true true (sym (tested .before .receives .ensures old) ∙ not-false _ (tested .if3 .left))
-    (sym (asked .stands-still .ensures old (own-fields-formed old (well-formed (past .before .before) chip whole))) ∙ c .if4 .taken) .0) whole
+    (sym (stands-by-word old (asked .modes-word .result) (own-fields-formed old (well-formed (past .before .before) chip whole)) (asked .modes-word .ensures)) ∙ ap not (ne-eqb _ 0 (c .if4 .taken))) .0) whole
 
 returns-5 : tie.Need-returns-5
 returns-5 c chip whole =
@@ -120,7 +127,7 @@ returns-5 c chip whole =
     let alerts = receives .before .before .before .before .before in
     let runs = alerts .before .before in
     let asked = runs .before in
-    let tested = asked .before .before in
+    let tested = asked .before .before .before in
     let past = tested .before .before .before in
     let s = entered past in
     let a = s .args in
@@ -134,7 +141,7 @@ returns-5 c chip whole =
     accepted-here old formed (called s) (withState (judges .alerted .last .0) received) (c .losing .result) []
     (known-bytes bytes (past .before .before .before .before .before .before .before .before .shared-slice-known .given)) whole
     (number past chip whole true false (sym (tested .before .receives .ensures old) ∙ not-false _ (tested .if3 .left))
-    (sym (asked .stands-still .ensures old (own-fields-formed old formed)) ∙ runs .if4 .left))
+    (sym (stands-by-word old (asked .modes-word .result) (own-fields-formed old formed) (asked .modes-word .ensures)) ∙ ap not (eq-eqb _ 0 (runs .if4 .left))))
     (record {
       answered = c .losing .ensures ∙ ap (λ (n : ℕ). coded (answer.lost n)) lost;
       turned =
@@ -155,7 +162,9 @@ deliver-spec =
     returns-2
     receives-requires
     returns-3
-    stands-still-requires
+    element-copy-out-modes-word
+    element-copy-out-modes-word-2
+    modes-word-requires
     returns-4
     alerts-of-requires
     received-requires

@@ -1,11 +1,11 @@
 -- `event_frame_take::take` meets its contract, by the refusals in their order. Assumes nothing.
 use borrow.Author.Needs.{needs}
-use borrow.Author.Tests.{not-true, not-false}
+use borrow.Author.Tests.{eq-eqb, ne-eqb, not-true, not-false}
 use denote.Ref.{now}
 use Prim.Native.Nat.{ℕ, _+_, _*_, _%_}
 use native.Mathlib.Omega.{arith}
 use mathlib.Core.Path.{_≡_, refl, sym, ap, _∙_}
-use mathlib.Core.Bool.{true, false}
+use mathlib.Core.Bool.{true, false, not}
 use Rattle.machine.specs.Refusals.{takeFrame}
 use Rattle.machine.specs.Events.{bufferTaken}
 use Rattle.state.specs.View.{at, viewOf, withClocks, withState}
@@ -14,6 +14,7 @@ use Rattle.state.specs.Lent.{clocksNumbersStateRegistersSlotsEeprom}
 use Rattle.state.specs.Meets.{Whole}
 use Rattle.state.specs.declared.Chip.{Chip}
 use Rattle.state.proofs.MeetLaws.{refused, malformed, take-short, take-judged, own-fields-formed, few-held, accepted-here}
+use Rattle.state.proofs.PowerLaws.{stands-by-word}
 use Rattle.state.proofs.ByteLaws.{known-bytes}
 use Rattle.event_frame_take.proofs.take.Statement.{statement}
 use Rattle.event_frame_take.proofs.take.Tie as tie
@@ -58,13 +59,19 @@ returns-3 c chip whole =
     let number = take-judged old (well-formed (past .before) chip whole) buffer (omega arith) false _ (sym (judged .frame-waits .ensures old) ∙ not-true _ (c .if3 .taken)) refl in
     refused old (takeFrame buffer) 3 (number .0) whole
 
-stands-still-requires : tie.Need-stands-still-requires
-stands-still-requires c κs = search needs
+element-copy-out-modes-word : tie.Need-element-copy-out-modes-word
+element-copy-out-modes-word c = search needs
+
+element-copy-out-modes-word-2 : tie.Need-element-copy-out-modes-word-2
+element-copy-out-modes-word-2 c = search needs
+
+modes-word-requires : tie.Need-modes-word-requires
+modes-word-requires c κs = search needs
 
 returns-4 : tie.Need-returns-4
 returns-4 c chip whole =
     let asked = c .before in
-    let waiting = asked .before in
+    let waiting = asked .before .before .before in
     let judged = waiting .before in
     let past = judged .before .before in
     let s = entered (past .before .before) in
@@ -73,7 +80,7 @@ returns-4 c chip whole =
     let formed = well-formed (past .before) chip whole in
     let number =
     take-judged old formed buffer (omega arith) true true (sym (judged .frame-waits .ensures old) ∙ not-false _ (waiting .if3 .left))
-    (sym (asked .stands-still .ensures old (own-fields-formed old formed)) ∙ c .if4 .taken) in
+    (sym (stands-by-word old (asked .modes-word .result) (own-fields-formed old formed) (asked .modes-word .ensures)) ∙ ap not (ne-eqb _ 0 (c .if4 .taken))) in
     refused old (takeFrame buffer) 3 (number .0) whole
 
 element-copy-out-last-bits : tie.Need-element-copy-out-last-bits
@@ -109,7 +116,7 @@ returns-5 c chip whole =
     let fills = c .before .before .before .before .before in
     let runs = fills .before .before .before .before in
     let asked = runs .before in
-    let waiting = asked .before in
+    let waiting = asked .before .before .before in
     let judged = waiting .before in
     let past = judged .before .before in
     let s = entered (past .before .before) in
@@ -121,7 +128,7 @@ returns-5 c chip whole =
     accepted-here old formed (takeFrame buffer) (withClocks (c .taken .last .0) (withState (c .taken .last .1 .0) old)) _ (fills .frame-into .last .1 .1 .1 .0)
     (known-bytes buffer (past .before .before .before .before .before .slice-known .given)) whole
     (take-judged old formed buffer (omega arith) true false (sym (judged .frame-waits .ensures old) ∙ not-false _ (waiting .if3 .left))
-    (sym (asked .stands-still .ensures old (own-fields-formed old formed)) ∙ runs .if4 .left))
+    (sym (stands-by-word old (asked .modes-word .result) (own-fields-formed old formed) (asked .modes-word .ensures)) ∙ ap not (eq-eqb _ 0 (runs .if4 .left))))
     (record {
       answered = ap (λ (n : ℕ). 0x100 * n + 0x1_0000 * (at (now (s .args .state)) 16 % 8)) (puts .counted);
       turned = goes .machine;
@@ -139,7 +146,9 @@ take-spec =
     returns-2
     frame-waits-requires
     returns-3
-    stands-still-requires
+    element-copy-out-modes-word
+    element-copy-out-modes-word-2
+    modes-word-requires
     returns-4
     element-copy-out-last-bits
     frame-into-requires

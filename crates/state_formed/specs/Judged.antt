@@ -32,9 +32,12 @@ restsWith stage count = cond (eqb stage 0x00) (leb count 64) (eqb stage 0x12 && 
 
 -- The states that a host meets most of the time, but for the edition: every bit of the first eight bytes that always reads 0 is 0, Control is 0 and CRC8 is 0, no
 -- programming clocks are left, no power mode has a number, the next address is below 200h, Idle holds at most 64 bytes or CalcCRC none, and the timer is formed.
-abbrev pub usual : Core → Bool
-usual k =
-    (firstClear (k .page) (k .control) (k .keyLoaded) (k .rxLastBits) (k .enables) (k .crcMode) (k .requests) (k .errors)
-    && (eqb (k .left) 0 && (eqb (k .standBy) 0 && eqb (k .powerDown) 0)))
-    && (ltb (k .next) 0x200
+abbrev pub usualWith : ℕ → Bool → Core → Bool
+usualWith next off k =
+    (firstClear (k .page) (k .control) (k .keyLoaded) (k .rxLastBits) (k .enables) (k .crcMode) (k .requests) (k .errors) && (eqb (k .left) 0 && off))
+    && (ltb next 0x200
     && (restsWith (k .stage) (heldCount (k .read) (k .write)) && timerFieldsFormed (k .running) (k .value) (k .prescaler) (k .phase)))
+
+-- Of the chip's own next address and numbers of the power modes.
+abbrev pub usual : Core → Bool
+usual k = usualWith (k .next) (eqb (k .standBy) 0 && eqb (k .powerDown) 0) k

@@ -11,9 +11,9 @@ ghost use mathlib.Core.Bool.{_&&_};
 ghost use mathlib.Core.Path.{_≡_};
 ghost use lib.Dec.{eqb};
 ghost use Rattle.state.specs.View.{at};
-ghost use Rattle.state.specs.Lent.{clocksNumbersState, clocksNumbersStateEeprom};
+ghost use Rattle.state.specs.Lent.{clocksState, clocksNumbersState, clocksNumbersStateEeprom};
 ghost use Rattle.state_clauses.specs.Clauses.{timerFieldsFormed, editionFieldsFormed};
-ghost use Rattle.state_formed.specs.Judged.{ReadsFields, Judges, firstClear, restsWith, usual};
+ghost use Rattle.state_formed.specs.Judged.{ReadsFields, Judges, firstClear, restsWith, usualWith, usual};
 use state::CONTROL;
 use state::CRC_MODE;
 use state::CRC_REGISTER;
@@ -98,11 +98,12 @@ pub fn of_own_edition(state: &[u8; 24], eeprom: &[u8; 512]) -> bool
 }
 
 // The states that a host meets most of the time, but for the edition: Idle or CalcCRC rests, nothing is programmed, both power modes are off, every bit that
-// always reads 0 is 0, and CRC8 is 0.
-pub fn quick(clocks: &[u32; 2], numbers: &[u16; 6], state: &[u8; 24]) -> bool
+// always reads 0 is 0, and CRC8 is 0. The next address and the word of the power modes are given by value: without their loads it is short enough for the
+// compiler to put it into a host access.
+fn passes(clocks: &[u32; 2], next: u16, modes: u32, state: &[u8; 24]) -> bool
     ensures { λ r.
-        let lent = clocksNumbersState (now (clocks .entry)) (now (numbers .entry)) (now (state .entry)) in
-        ⌜ ReadsFields usual lent r ⌝ }
+        let lent = clocksState (now (clocks .entry)) (now (state .entry)) in
+        ⌜ ReadsFields (usualWith next (eqb modes 0)) lent r ⌝ }
 {
     let bits = word(
         state[PAGE],
@@ -114,11 +115,10 @@ pub fn quick(clocks: &[u32; 2], numbers: &[u16; 6], state: &[u8; 24]) -> bool
         state[REQUESTS],
         state[ERRORS],
     );
-    let modes = modes_word(numbers[STAND_BY], numbers[POWER_DOWN]);
     if none(bits, clocks[LEFT], modes) != 0 {
         return false;
     }
-    if numbers[NEXT] >= 0x200 {
+    if next >= 0x200 {
         return false;
     }
     if !rests(state[STAGE], held(state)) {
@@ -130,6 +130,16 @@ pub fn quick(clocks: &[u32; 2], numbers: &[u16; 6], state: &[u8; 24]) -> bool
         state[PRESCALER],
         clocks[PHASE],
     )
+}
+
+// The same, of the chip's own numbers.
+pub fn quick(clocks: &[u32; 2], numbers: &[u16; 6], state: &[u8; 24]) -> bool
+    ensures { λ r.
+        let lent = clocksNumbersState (now (clocks .entry)) (now (numbers .entry)) (now (state .entry)) in
+        ⌜ ReadsFields usual lent r ⌝ }
+{
+    let modes = modes_word(numbers[STAND_BY], numbers[POWER_DOWN]);
+    passes(clocks, numbers[NEXT], modes, state)
 }
 
 // Every clause.

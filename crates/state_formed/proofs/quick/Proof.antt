@@ -1,77 +1,13 @@
--- `state_formed::quick` meets its contract, test by test. Assumes nothing.
-use denote.Ref.{now}
-use mathlib.Core.Path.{_≡_, refl, sym, ap, _∙_}
-use mathlib.Core.Bool.{Bool, _&&_}
-use lib.Dec.{eqb, ltb}
+-- `state_formed::quick` meets its contract: the numbers that it passes on. Assumes nothing.
 use borrow.Author.Needs.{needs}
-use borrow.Author.Tests.{eq-eqb, ne-eqb, lt-ltb, le-ltb, not-true, not-false}
-use Rattle.state.specs.View.{Core, coreOf, heldCount}
-use Rattle.state_clauses.specs.Clauses.{timerFieldsFormed}
-use Rattle.state_formed.specs.Judged.{restsWith, usual}
-use Rattle.state_clauses.proofs.ByteLaws.{joined}
+use denote.Ref.{now}
+use mathlib.Core.Path.{ap, _∙_}
+use mathlib.Core.Bool.{Bool}
+use Rattle.state.specs.View.{core}
+use Rattle.state.specs.Lent.{clocksNumbersState}
+use Rattle.state_formed.specs.Judged.{usualWith}
 use Rattle.state_formed.proofs.quick.Statement.{statement}
 use Rattle.state_formed.proofs.quick.Tie as tie
-
--- The fields at entry.
-abbrev fields : tie.Start → Core
-fields s = let a = s .args in coreOf (now (a .clocks)) (now (a .numbers)) (now (a .state))
-
--- Before the first test.
-abbrev moded : tie.After-none → tie.After-modes-word
-moded call = call .before .before
-
-abbrev worded : tie.After-none → tie.After-word
-worded call = moded call .before .before .before
-
-abbrev began : tie.After-none → tie.Start
-began call = worded call .before .before .before .before .before .before .before .before .before
-
--- What is left to be asked after it, and after the third.
-usually : (call : tie.After-none) {t : Bool} → let k = fields (began call) in eqb (call .none .result) 0 ≡ t →
-    usual k ≡ (t && (ltb (k .next) 0x200 && (restsWith (k .stage) (heldCount (k .read) (k .write)) && timerFieldsFormed (k .running) (k .value) (k .prescaler) (k .phase))))
-usually call is =
-    let k = fields (began call) in
-    joined (joined (sym (worded call .word .ensures)) (ap (λ (t : Bool). eqb (k .left) 0 && t) (sym (moded call .modes-word .ensures))) ∙ sym (call .none .ensures) ∙ is) refl
-
-abbrev none-asked : tie.After-rests → tie.After-none
-none-asked call = call .before .before .before .before .before .before
-
-resting : (call : tie.After-rests) {t : Bool} → let k = fields (began (none-asked call)) in call .rests .result ≡ t →
-    usual k ≡ (t && timerFieldsFormed (k .running) (k .value) (k .prescaler) (k .phase))
-resting call is =
-    let holding = call .before in
-    let near = holding .before .before in
-    let calm = near .before .before in
-    let k = fields (began (none-asked call)) in
-    usually (calm .before) (eq-eqb _ 0 (calm .if1 .left))
-    ∙ joined (lt-ltb (k .next) 0x200 (near .if2 .left)) (joined (ap (restsWith (k .stage)) (sym (holding .held .ensures .counted)) ∙ sym (call .rests .ensures) ∙ is) refl)
-
-element-copy-out-word : tie.Need-element-copy-out-word
-element-copy-out-word c = search needs
-
-element-copy-out-word-2 : tie.Need-element-copy-out-word-2
-element-copy-out-word-2 c = search needs
-
-element-copy-out-word-3 : tie.Need-element-copy-out-word-3
-element-copy-out-word-3 c = search needs
-
-element-copy-out-word-4 : tie.Need-element-copy-out-word-4
-element-copy-out-word-4 c = search needs
-
-element-copy-out-word-5 : tie.Need-element-copy-out-word-5
-element-copy-out-word-5 c = search needs
-
-element-copy-out-word-6 : tie.Need-element-copy-out-word-6
-element-copy-out-word-6 c = search needs
-
-element-copy-out-word-7 : tie.Need-element-copy-out-word-7
-element-copy-out-word-7 c = search needs
-
-element-copy-out-word-8 : tie.Need-element-copy-out-word-8
-element-copy-out-word-8 c = search needs
-
-word-requires : tie.Need-word-requires
-word-requires c κs = search needs
 
 element-copy-out-modes-word : tie.Need-element-copy-out-modes-word
 element-copy-out-modes-word c = search needs
@@ -82,83 +18,18 @@ element-copy-out-modes-word-2 c = search needs
 modes-word-requires : tie.Need-modes-word-requires
 modes-word-requires c κs = search needs
 
-element-copy-out-none : tie.Need-element-copy-out-none
-element-copy-out-none c = search needs
+element-copy-out-passes : tie.Need-element-copy-out-passes
+element-copy-out-passes c = search needs
 
-none-requires : tie.Need-none-requires
-none-requires c κs = search needs
+passes-requires : tie.Need-passes-requires
+passes-requires c κs = search needs
 
 returns : tie.Need-returns
-returns c chip = sym (usually (c .before) (ne-eqb _ 0 (c .if1 .taken)))
-
-element-copy-out-if2 : tie.Need-element-copy-out-if2
-element-copy-out-if2 c = search needs
-
-returns-2 : tie.Need-returns-2
-returns-2 c chip =
-    let calm = c .before .before in
-    sym (usually (calm .before) (eq-eqb _ 0 (calm .if1 .left)) ∙ joined (le-ltb _ 0x200 (c .if2 .taken)) refl)
-
-element-copy-out-rests : tie.Need-element-copy-out-rests
-element-copy-out-rests c = search needs
-
-held-requires : tie.Need-held-requires
-held-requires c κs = search needs
-
-rests-requires : tie.Need-rests-requires
-rests-requires c κs = search needs
-
-returns-3 : tie.Need-returns-3
-returns-3 c chip = sym (resting (c .before) (not-true _ (c .if3 .taken)))
-
-element-copy-out-timer-kept : tie.Need-element-copy-out-timer-kept
-element-copy-out-timer-kept c = search needs
-
-element-copy-out-timer-kept-2 : tie.Need-element-copy-out-timer-kept-2
-element-copy-out-timer-kept-2 c = search needs
-
-element-copy-out-timer-kept-3 : tie.Need-element-copy-out-timer-kept-3
-element-copy-out-timer-kept-3 c = search needs
-
-element-copy-out-timer-kept-4 : tie.Need-element-copy-out-timer-kept-4
-element-copy-out-timer-kept-4 c = search needs
-
-timer-kept-requires : tie.Need-timer-kept-requires
-timer-kept-requires c κs = search needs
-
-returns-4 : tie.Need-returns-4
-returns-4 c chip =
-    let past = c .before .before .before .before .before in
-    c .timer-kept .ensures ∙ sym (resting (past .before) (not-false _ (past .if3 .left)))
+returns c chip =
+    let moded = c .before .before in
+    let a = moded .before .before .before .args in
+    let here = clocksNumbersState (now (a .clocks)) (now (a .numbers)) (now (a .state)) chip in
+    c .passes .ensures here ∙ ap (λ (t : Bool). usualWith (core here .next) t (core here)) (moded .modes-word .ensures)
 
 pub quick-spec : {M : Type 1} → statement M
-quick-spec =
-    tie.close
-    (tie.spec
-    element-copy-out-word
-    element-copy-out-word-2
-    element-copy-out-word-3
-    element-copy-out-word-4
-    element-copy-out-word-5
-    element-copy-out-word-6
-    element-copy-out-word-7
-    element-copy-out-word-8
-    word-requires
-    element-copy-out-modes-word
-    element-copy-out-modes-word-2
-    modes-word-requires
-    element-copy-out-none
-    none-requires
-    returns
-    element-copy-out-if2
-    returns-2
-    element-copy-out-rests
-    held-requires
-    rests-requires
-    returns-3
-    element-copy-out-timer-kept
-    element-copy-out-timer-kept-2
-    element-copy-out-timer-kept-3
-    element-copy-out-timer-kept-4
-    timer-kept-requires
-    returns-4)
+quick-spec = tie.close (tie.spec element-copy-out-modes-word element-copy-out-modes-word-2 modes-word-requires element-copy-out-passes passes-requires returns)

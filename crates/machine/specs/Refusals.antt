@@ -1,5 +1,6 @@
 -- Manual 10: which call is refused with which number. A call's tests come one after the other, 7 ahead of all others and 4 behind them; of a start
--- only the image is judged, its length first. A frame is refused while a power mode has hold. The number 0 stands for no refusal, and 3 is never given: an advance is by any number of clocks.
+-- only the image is judged, its length first. A frame is refused while a power mode has hold. The number 0 stands for no refusal, and 3 is never given: an
+-- advance is by any number of clocks.
 -- Assumes nothing.
 use Prim.Native.Nat.{ℕ, _<_}
 use Rattle.bits.specs.Bits.{Bytes}

@@ -1,13 +1,13 @@
 -- A power mode in the arrays: its bit of Control reads as it is stored; where bit and number agree, it has hold exactly where the number is not 0; and both modes
 -- are stored.
 -- Assumes nothing.
-use Prim.Native.Nat.{ℕ, _-_, _≤_}
+use Prim.Native.Nat.{ℕ, _+_, _-_, _*_, _^_, _≤_}
 use native.Mathlib.Omega.{arith}
 use mathlib.Core.Path.{_≡_, refl, sym, ap, _∙_}
 use mathlib.Core.Bool.{Bool, true, false, cond, not, _&&_, _||_, true≢false}
 use lib.Dec.{ltb, leb, eqb}
 use lib.ListN.{set, length-set}
-use borrow.Author.Tests.{eqb-true, leb-true, le-ltb}
+use borrow.Author.Tests.{eq-eqb, ne-eqb, eqb-false, eqb-true, leb-true, le-ltb}
 use Rattle.bits.specs.Bits.{bitSet}
 use Rattle.machine.specs.State.{Mode, Modes, waiting, inHold, leaving, withModes}
 use Rattle.machine.specs.Power.{bitReads, hasHold, standsStill}
@@ -57,8 +57,16 @@ stands-by-numbers c formed =
     either-not false b = refl
 
 -- As one word they are 0 where both are.
-pub stands-by-word : (c : Chip) (word : ℕ) → fieldsFormed c ≡ true → eqb word 0 ≡ (eqb (core c .standBy) 0 && eqb (core c .powerDown) 0) → not (eqb word 0) ≡ standsStill (view c)
-stands-by-word c word formed is = ap not is ∙ stands-by-numbers c formed
+pub word-none : (word low high : ℕ) → word ≡ high * 2 ^ 16 + low → eqb word 0 ≡ (eqb low 0 && eqb high 0)
+word-none word low high is = go (eqb low 0) (eqb high 0) refl refl
+  where
+    go : (a b : Bool) → eqb low 0 ≡ a → eqb high 0 ≡ b → eqb word 0 ≡ (a && b)
+    go true true e f = eq-eqb word 0 (omega (arith, is, eqb-true low 0 e, eqb-true high 0 f))
+    go true false e f = ne-eqb word 0 (λ h. eqb-false high 0 f (omega (arith, is, h)))
+    go false b e f = ne-eqb word 0 (λ h. eqb-false low 0 e (omega (arith, is, h)))
+
+pub stands-by-word : (c : Chip) (word : ℕ) → fieldsFormed c ≡ true → word ≡ core c .powerDown * 2 ^ 16 + core c .standBy → not (eqb word 0) ≡ standsStill (view c)
+stands-by-word c word formed is = ap not (word-none word (core c .standBy) (core c .powerDown) is) ∙ stands-by-numbers c formed
 
 -- Control and both numbers are stored, and the modes are what the three then say.
 pub modes-stored : (x : Modes) (control standBy powerDown : ℕ) (c : Chip) → Sizes c →

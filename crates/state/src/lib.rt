@@ -2,9 +2,8 @@
 //
 // Any memory is some chip, which refusal 7 judges. Names are the data sheet's. specs/View.antt says which machine the arrays are,
 // specs/Formed.antt when a chip is well formed, specs/Turns.antt what a function on some of the arrays promises.
+ghost use Prim.Native.Nat.{_+_, _*_, _^_};
 ghost use mathlib.Core.Path.{_≡_};
-ghost use mathlib.Core.Bool.{_&&_};
-ghost use lib.Dec.{eqb};
 ghost use Rattle.state.specs.View.{withState, raised, marked, unmarked};
 ghost use Rattle.state.specs.Lent.{clocksState};
 ghost use Rattle.state.specs.Turns.{Turns, Reads, Counts, Holds, ControlIs};
@@ -108,9 +107,10 @@ pub fn programs(clocks: &[u32; 2], state: &[u8; 24]) -> bool
     (stage == 0x01) | (stage == 0x41)
 }
 
-// The numbers of the two power modes as one word: in a well-formed chip, of a number above 0 where one of them has hold. That the two are of 16 bits is known of parameters by value, and not of elements that are loaded.
+// The numbers of the two power modes as one word, StandBy's below PowerDown's. That they have 16 bits is known of parameters by value, and not of elements
+// that are loaded.
 pub fn modes_word(low: u16, high: u16) -> u32
-    ensures { λ r. ⌜ eqb r 0 ≡ (eqb low 0 && eqb high 0) ⌝ }
+    ensures { λ r. ⌜ r ≡ high * 2 ^ 16 + low ⌝ }
 {
     high as u32 * 0x1_0000 + low as u32
 }

@@ -1,6 +1,7 @@
 -- `state_clauses::modes_formed` meets its contract, two modes that are off first, and else mode by mode. Assumes nothing.
 use borrow.Author.Needs.{needs}
 use mathlib.Core.Path.{sym}
+use Rattle.state.proofs.PowerLaws.{word-none}
 use Rattle.state_clauses.proofs.ByteLaws.{joined}
 use Rattle.state_clauses.proofs.ModeLaws.{both-off}
 use Rattle.state_clauses.proofs.modes_formed.Statement.{statement}
@@ -13,7 +14,7 @@ returns : tie.Need-returns
 returns c =
     let asked = c .before in
     let a = asked .before .args in
-    sym (both-off (a .control) (a .standby) (a .powerdown) (a .left) (asked .modes-word .result) (c .if1 .taken) (asked .modes-word .ensures))
+    sym (both-off (a .control) (a .standby) (a .powerdown) (a .left) (asked .modes-word .result) (c .if1 .taken) (word-none _ (a .standby) (a .powerdown) (asked .modes-word .ensures)))
 
 mode-formed-requires : tie.Need-mode-formed-requires
 mode-formed-requires c κs = search needs

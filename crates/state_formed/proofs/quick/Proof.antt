@@ -5,6 +5,7 @@ use mathlib.Core.Path.{ap, _∙_}
 use mathlib.Core.Bool.{Bool}
 use Rattle.state.specs.View.{core}
 use Rattle.state.specs.Lent.{clocksNumbersState}
+use Rattle.state.proofs.PowerLaws.{word-none}
 use Rattle.state_formed.specs.Judged.{usualWith}
 use Rattle.state_formed.proofs.quick.Statement.{statement}
 use Rattle.state_formed.proofs.quick.Tie as tie
@@ -29,7 +30,7 @@ returns c chip =
     let moded = c .before .before in
     let a = moded .before .before .before .args in
     let here = clocksNumbersState (now (a .clocks)) (now (a .numbers)) (now (a .state)) chip in
-    c .passes .ensures here ∙ ap (λ (t : Bool). usualWith (core here .next) t (core here)) (moded .modes-word .ensures)
+    c .passes .ensures here ∙ ap (λ (t : Bool). usualWith (core here .next) t (core here)) (word-none _ (core here .standBy) (core here .powerDown) (moded .modes-word .ensures))
 
 pub quick-spec : {M : Type 1} → statement M
 quick-spec = tie.close (tie.spec element-copy-out-modes-word element-copy-out-modes-word-2 modes-word-requires element-copy-out-passes passes-requires returns)

@@ -1,4 +1,7 @@
 // The arguments of a command (manual 7.1): the address that waits in the FIFO.
+
+#![tactic(auto)]
+
 ghost use Rattle.machine.specs.Memory.{address_of};
 ghost use Rattle.machine.specs.Commands.{argument as commands_argument};
 ghost use Rattle.state.specs.Lent.{state_slots};

@@ -1,5 +1,8 @@
 // A write to Command (manual 7.1): the old command ends and the written code is started, or the write is ignored while programming runs. What the
 // new command does with bytes that wait already is no part of it.
+
+#![tactic(auto)]
+
 ghost use Rattle.std.specs.Prelude.{◌≡◌, true};
 ghost use Rattle.machine.specs.State.{with_command};
 ghost use Rattle.machine.specs.Commands.{checksum_started as commands_checksum_started, command_started, command_written as commands_command_written};

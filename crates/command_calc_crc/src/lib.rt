@@ -1,4 +1,7 @@
 // CalcCRC (manual 7.6): it takes every held byte into the checksum and goes on. Its contract holds whatever command is active.
+
+#![tactic(auto)]
+
 ghost use Rattle.std.specs.Prelude.{◌≡◌};
 ghost use Rattle.crc.specs.Checksum.{absorbed_all};
 ghost use Rattle.machine.specs.State.{CalcCRC};

@@ -1,6 +1,9 @@
 // LoadConfig (manual 7.4): the registers that it loads from the EEPROM, and its step.
 //
 // The step waits until its address is held, then takes it and ends. Its contract holds whatever command is active; `command_work` chooses by the stage.
+
+#![tactic(auto)]
+
 ghost use Rattle.machine.specs.State.{LoadConfig};
 ghost use Rattle.machine.specs.Commands.{configured_from as commands_configured_from, stepped_as};
 ghost use Rattle.state.specs.Lent.{clocks_state_registers_slots_eeprom};

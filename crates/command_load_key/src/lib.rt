@@ -1,6 +1,9 @@
 // LoadKey and LoadKeyE2 (manual 7.5): the key that they load, and their steps.
 //
 // A step waits until all its arguments are held, then takes them and ends. Its contract holds whatever command is active.
+
+#![tactic(auto)]
+
 ghost use Rattle.std.specs.Prelude.{◌≤◌, ◌≡◌, length};
 ghost use Rattle.machine.specs.State.{LoadKeyE2, LoadKey};
 ghost use Rattle.machine.specs.Memory.{bytes_from};

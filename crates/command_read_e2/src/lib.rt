@@ -1,6 +1,9 @@
 // ReadE2 (manual 7.3): the bytes of the EEPROM that it offers, and its step.
 //
 // The step waits until all its arguments are held, then takes them and ends. Its contract holds whatever command is active.
+
+#![tactic(auto)]
+
 ghost use Rattle.std.specs.Prelude.{◌≤◌, ◌≡◌, true};
 ghost use Rattle.machine.specs.State.{ReadE2};
 ghost use Rattle.machine.specs.Fifo.{offered_all, lost_of};

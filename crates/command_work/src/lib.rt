@@ -1,4 +1,7 @@
 // What the active command does with waiting bytes (manual 7), by its stage.
+
+#![tactic(auto)]
+
 ghost use Rattle.std.specs.Prelude.{◌≤◌};
 ghost use Rattle.machine.specs.Commands.{settled, lost_settling};
 ghost use Rattle.state.specs.Lent.{assembled};

@@ -1,5 +1,8 @@
 // WriteE2 (manual 7.2), in two steps: it takes its address, and it latches held bytes up to the end of a block, which starts a programming. Each
 // contract holds whatever the stage is. Where a batch begins is told besides, for the end of its programming.
+
+#![tactic(auto)]
+
 ghost use Rattle.std.specs.Prelude.{◌%◌, min, ◌≡◌};
 ghost use Rattle.machine.specs.State.{addressing, ready};
 ghost use Rattle.machine.specs.Memory.{room_in_block};

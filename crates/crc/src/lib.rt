@@ -3,6 +3,9 @@
 //
 // `redundancy` is the byte of ChannelRedundancy (22h): bit 4 chooses CRC8, bit 5 complements a 16-bit result.
 // `register` is the CRC register. Every function takes any numbers.
+
+#![tactic(auto)]
+
 ghost use Rattle.std.specs.Prelude.{◌≡◌};
 ghost use Rattle.crc.specs.Checksum.{after_bit as checksum_after_bit, after_byte as checksum_after_byte, taps16, preset_of, absorbed, absorbed_all, result_of};
 ghost use Rattle.crc.specs.Checksum.{checksum as checksum_checksum};

@@ -1,5 +1,8 @@
 // The checksum over a slice, by a C name: for tests/differential alone, which compares it with plain Rust and times it. The library that
 // firmware links does not have it.
+
+#![tactic(auto)]
+
 ghost use Rattle.std.specs.Prelude.{◌≡◌};
 ghost use Rattle.crc.specs.Checksum.{absorbed_all};
 

@@ -3,6 +3,9 @@
 // It is a `match` of constants, which the compiler makes a table in read-only memory; an array would be built anew at each use. The arms go by the
 // byte with bit 7 flipped, since the compiler orders the cases of a byte as signed numbers: its table then begins with the entry for 00h, and no
 // addition comes before the lookup.
+
+#![tactic(auto)]
+
 ghost use Rattle.std.specs.Prelude.{◌≡◌};
 ghost use Rattle.crc_table.specs.ShiftRegister.{after_bits, taps16};
 

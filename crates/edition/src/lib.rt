@@ -1,6 +1,9 @@
 // The two editions of the chip (manual 6.4): which one an image is of, and the bits that each fixes.
 //
 // specs/Edition.antt has what tells them apart, specs/FixedBits.antt cites the data sheet for every entry of the tables.
+
+#![tactic(auto)]
+
 ghost use Rattle.std.specs.Prelude.{◌≡◌, [], ◌∷◌, get_or};
 ghost use Rattle.edition.specs.FixedBits.{fixed};
 ghost use Rattle.edition.specs.Edition.{fixed_bits as edition_fixed_bits, is_of};

@@ -1,5 +1,8 @@
 // The six events by value: the chip is passed in, and handed back with the answer. Each copies the arrays into locals and lends those to the event on the
 // arrays. So does the call for the sum of lost bytes, which hands no chip back, since it changes none.
+
+#![tactic(auto)]
+
 ghost use Rattle.std.specs.Prelude.{◌≡◌, []};
 ghost use Rattle.machine.specs.Refusals.{start as refusals_start, host_read as refusals_host_read, host_write as refusals_host_write, advance as refusals_advance, take_frame, deliver as refusals_deliver};
 ghost use Rattle.state.specs.Meets.{Meets};

@@ -2,6 +2,9 @@
 // a safe start, and packs of profiles.
 //
 // An event lends the chip's arrays where they lie to the event on the arrays, and answers its number. Nothing is copied.
+
+#![tactic(auto)]
+
 ghost use Rattle.std.specs.Prelude.{◌≡◌, [], length};
 ghost use Rattle.pack.specs.Outcome.{numbered};
 ghost use Rattle.pack.specs.Write.{writing, filled};

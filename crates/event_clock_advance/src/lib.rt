@@ -1,4 +1,7 @@
 // The clock advance on the arrays (manual 9.4).
+
+#![tactic(auto)]
+
 ghost use Rattle.std.specs.Prelude.{[]};
 ghost use Rattle.machine.specs.Refusals.{advance as refusals_advance};
 ghost use Rattle.state.specs.Lent.{assembled};

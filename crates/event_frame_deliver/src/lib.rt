@@ -2,6 +2,9 @@
 //
 // The timer is stopped where TimerControl (2Bh) says so, the frame is judged, the bytes that pass are offered to the FIFO, RxIRq is set, and the command ends.
 // How many of the bytes were lost is answered.
+
+#![tactic(auto)]
+
 ghost use Rattle.std.specs.Prelude.{◌≤◌, [], length};
 ghost use Rattle.machine.specs.Frames.{rx_stopped as frames_rx_stopped, received as frames_received, lost_receiving};
 ghost use Rattle.machine.specs.Refusals.{deliver as refusals_deliver};

@@ -1,4 +1,7 @@
 // The take of a frame that the chip sends (manual 9.5): it goes to the front of a buffer that has room for the longest, 66 bytes.
+
+#![tactic(auto)]
+
 ghost use Rattle.std.specs.Prelude.{◌+◌, ◌≤◌, ◌≡◌, ◌++◌, length, take as list_n_take};
 ghost use Rattle.machine.specs.Refusals.{take_frame};
 ghost use Rattle.machine.specs.Frames.{frame_sent};

@@ -1,4 +1,7 @@
 // A host read on lent arrays (manual 9.2): what an address reads, and the byte that a read of FIFOData removes.
+
+#![tactic(auto)]
+
 ghost use Rattle.std.specs.Prelude.{[]};
 ghost use Rattle.machine.specs.Refusals.{host_read as refusals_host_read};
 ghost use Rattle.state.specs.Lent.{clocks_numbers_state_registers_slots_eeprom};

@@ -2,6 +2,9 @@
 //
 // A write of FIFOData and of Command has the command do what it can; no other write lets it do more than it could before. CalcCRC, by which a host sums
 // byte after byte, has ways of its own, in which no byte passes through the FIFO.
+
+#![tactic(auto)]
+
 ghost use Rattle.std.specs.Prelude.{◌≡◌, [], ◌+◌};
 ghost use Rattle.machine.specs.Fifo.{offered as fifo_offered, lost_at, alerted as fifo_alerted};
 ghost use Rattle.machine.specs.Commands.{command_written, settled, lost_settling};

@@ -1,4 +1,7 @@
 // The start on the chip's arrays (manual 9.1): from an EEPROM image, whatever the chip was, as a chip of the image's edition.
+
+#![tactic(auto)]
+
 ghost use Rattle.std.specs.Prelude.{◌≡◌, [], length};
 ghost use Rattle.machine.specs.Refusals.{start as refusals_start};
 ghost use Rattle.state.specs.Lent.{assembled};

@@ -1,4 +1,7 @@
 // What is judged of a frame received (manual 8.2), by the registers: its parity, its checksum, and how many of its bytes pass.
+
+#![tactic(auto)]
+
 mod checksum;
 mod parity;
 

@@ -1,4 +1,7 @@
 // Whether a frame received is formed, which refusal 5 judges (manual 10.1).
+
+#![tactic(auto)]
+
 ghost use Rattle.std.specs.Prelude.{◌≡◌};
 ghost use Rattle.machine.specs.Refusals.{all_bits as refusals_all_bits, frame_formed as refusals_frame_formed};
 

@@ -1,4 +1,7 @@
 // Lengths of lists: the end of a loop that goes no further than either of two.
+
+#![tactic(auto)]
+
 ghost use Rattle.std.specs.Prelude.{◌≡◌, ◌-◌};
 
 // The lesser of two lengths.

@@ -1,4 +1,7 @@
 // The key unit (manual 7.5): a six-byte key from its twelve stored bytes.
+
+#![tactic(auto)]
+
 ghost use Rattle.std.specs.Prelude.{◌≡◌, ◌&&◌};
 ghost use Rattle.key.specs.Key.{paired, format_holds, judged_key};
 

@@ -1,4 +1,7 @@
 // What the writer and the reader of a pack share (manual 11.6): a number as four bytes, and the order of names.
+
+#![tactic(auto)]
+
 ghost use Rattle.std.specs.Prelude.{◌≡◌, List, ℕ, ◌+◌, ◌/◌, length};
 ghost use Rattle.pack.specs.Layout.{four_bytes as layout_four_bytes};
 ghost use Rattle.pack.specs.Write.{profiles_of, ascending};

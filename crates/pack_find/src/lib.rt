@@ -1,4 +1,7 @@
 // Finding a profile of a pack by its name (manual 11.9), by halving: at most nine names are compared.
+
+#![tactic(auto)]
+
 ghost use Rattle.std.specs.Prelude.{◌≡◌};
 ghost use Rattle.pack.specs.Outcome.{numbered};
 ghost use Rattle.pack.specs.Find.{finding, halved, part_found, offset_of};

@@ -1,4 +1,7 @@
 // The order of two byte strings, by which the names of a pack ascend (manual 11.6).
+
+#![tactic(auto)]
+
 ghost use Rattle.std.specs.Prelude.{◌≡◌, [], ◌∷◌, ◌+◌, ◌≤◌, length, drop};
 ghost use Rattle.pack_order.specs.Order.{compared, before as order_before, same as order_same};
 ghost use Rattle.pack_order.specs.Word.{number_of, word_at};

@@ -1,4 +1,7 @@
 // Reading a pack (manual 11.8): whether bytes are one, how many profiles it has, and its names and bodies as parts of it.
+
+#![tactic(auto)]
+
 ghost use Rattle.std.specs.Prelude.{◌≡◌, ◌*◌, ◌<◌, ◌≤◌, length};
 ghost use Rattle.pack_order.specs.Order.{same as order_same};
 ghost use Rattle.pack.specs.Layout.{trailer};

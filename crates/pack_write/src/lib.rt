@@ -1,4 +1,7 @@
 // Writing a pack (manual 11.7), from names and bodies that are lent one after the other, into a buffer that is lent.
+
+#![tactic(auto)]
+
 ghost use Rattle.std.specs.Prelude.{◌≡◌, List, ℕ, ◌+◌, ◌*◌, ◌≤◌, length};
 ghost use Rattle.pack.specs.Layout.{index, trailer};
 ghost use Rattle.pack.specs.Outcome.{numbered};

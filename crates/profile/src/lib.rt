@@ -1,4 +1,7 @@
 // The profile check: thirty-two bytes for registers 10h to 2Fh of an edition pass, or are refused with a number of manual 11.
+
+#![tactic(auto)]
+
 ghost use Rattle.std.specs.Prelude.{◌≡◌, ◌<◌, length};
 ghost use Rattle.profile.specs.Answer.{answer_of};
 ghost use Rattle.edition.specs.Edition.{fixed_bits};

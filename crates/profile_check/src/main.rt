@@ -2,6 +2,9 @@
 //
 // Input of any length has a verdict; one byte more than a profile has is enough to know that the length is wrong, so no more is read.
 // A read or a write that fails is named on standard error, and a failed read gives no verdict.
+
+#![tactic(auto)]
+
 ghost use Rattle.std.specs.Prelude.{◌≤◌, length};
 ghost use Rattle.profile_check.specs.Input.{count_of};
 

@@ -3,6 +3,9 @@
 //
 // An enum cannot hold a reference, so the answer stands in two functions over the same images: `choose` says whose profile it is or why
 // there is none, and `chosen` hands back that part of what was lent. A profile is always 32 bytes and a refusal the empty part.
+
+#![tactic(auto)]
+
 ghost use Rattle.std.specs.Prelude.{◌≡◌, length};
 ghost use Rattle.edition.specs.Edition.{fixed_bits};
 ghost use Rattle.profile.specs.Answer.{is_pass};

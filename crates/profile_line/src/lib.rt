@@ -1,4 +1,7 @@
 // The line that a person reads for a verdict (manual 11.3), filled into a buffer.
+
+#![tactic(auto)]
+
 ghost use Rattle.std.specs.Prelude.{◌≡◌, [], ◌∷◌, ◌+◌, ◌<◌, ◌≤◌, length};
 ghost use Rattle.bits.specs.Text.{digit, hex_byte, decimal_byte};
 ghost use Rattle.profile.specs.Answer.{answer_of};

@@ -1,4 +1,7 @@
 // The number of a profile check's verdict (manual 9.8), for hosts that have no types for it.
+
+#![tactic(auto)]
+
 ghost use Rattle.std.specs.Prelude.{◌≡◌};
 ghost use Rattle.profile.specs.Answer.{refusal_answer, answer_of};
 ghost use Rattle.profile_number.specs.Numbers.{profile_number};

@@ -1,4 +1,7 @@
 // What programs that make a chip begin with: a chip's memory before its first start, and an image to start it from.
+
+#![tactic(auto)]
+
 ghost use Rattle.std.specs.Prelude.{◌≡◌};
 ghost use Rattle.program_blank_chip.specs.Blank.{blank_chip as blank_blank_chip, blank_image as blank_blank_image};
 

@@ -1,4 +1,7 @@
 // A walk through checksums and frames, sent and received, as a table with a line for each step. `program_walkthrough` has the rest of the chip.
+
+#![tactic(auto)]
+
 use program_blank_chip::{blank_chip, blank_image};
 use program_steps::{steps, table};
 use state::Chip;

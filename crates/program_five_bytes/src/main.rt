@@ -3,6 +3,9 @@
 // The first byte is programmed alone, since none waits behind it yet; then the three that fit before the block's end at 16Fh; then the last,
 // at 170h. Each programming takes 78,648 clocks. A line is printed one clock before the end of each and at its end; then the same with all clocks in
 // one advance, and with one clock less.
+
+#![tactic(auto)]
+
 use libc::STDOUT_FILENO;
 use program_blank_chip::{blank_chip, blank_image};
 use state::Chip;

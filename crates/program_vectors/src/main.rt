@@ -2,6 +2,9 @@
 //
 // The checksums are those of the catalogue of parametrised CRC algorithms over the bytes of "123456789"; the profile is the one that the
 // MFRC531 is shipped with (data sheet 005, Table 15).
+
+#![tactic(auto)]
+
 use edition::Edition;
 use libc::STDOUT_FILENO;
 use profile::Verdict;

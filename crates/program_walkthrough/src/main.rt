@@ -1,4 +1,7 @@
 // A walk through the chip: starts, FIFO, EEPROM, keys, timer, refusals and the editions, as a table with a line for each step. `program_exchanges` has checksums and frames.
+
+#![tactic(auto)]
+
 use program_blank_chip::{blank_chip, blank_image};
 use program_steps::{steps, table};
 use state::{Chip, EDITION, PAGE};

@@ -1,4 +1,7 @@
 // The call for the sum of lost bytes on the chip's arrays (manual 9.9). It is no event: it changes nothing, and takes no time.
+
+#![tactic(auto)]
+
 ghost use Rattle.std.specs.Prelude.{◌≡◌};
 ghost use Rattle.state.specs.declared.Chip.{Chip};
 ghost use Rattle.state.specs.Lent.{clocks_numbers_state_eeprom};

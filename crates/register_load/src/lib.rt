@@ -1,4 +1,7 @@
 // Registers 10h-2Fh are loaded from the EEPROM, at a start and by LoadConfig (manual 9.1, 7.4).
+
+#![tactic(auto)]
+
 ghost use Rattle.std.specs.Prelude.{◌≡◌};
 ghost use Rattle.machine.specs.Memory.{over_registers};
 ghost use Rattle.register_load.specs.Wrapped.{wrapped_from};

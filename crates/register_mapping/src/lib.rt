@@ -1,4 +1,7 @@
 // Which register an address is (manual 2.1).
+
+#![tactic(auto)]
+
 ghost use Rattle.std.specs.Prelude.{◌≡◌};
 ghost use Rattle.machine.specs.Registers.{mapped as registers_mapped};
 

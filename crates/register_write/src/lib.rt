@@ -1,5 +1,8 @@
 // A write to a register, by its address after mapping: to every one but Command (01h) and FIFOData (02h). The alerts are judged over it: only FlushFIFO and a
 // write to FIFOLevel (29h) can move them.
+
+#![tactic(auto)]
+
 ghost use Rattle.std.specs.Prelude.{◌/◌, ◌<◌, ◌≡◌, cond};
 ghost use Rattle.machine.specs.Fifo.{flushed as fifo_flushed, alerted as fifo_alerted};
 ghost use Rattle.machine.specs.Timer.{timer_started, timer_stopped};

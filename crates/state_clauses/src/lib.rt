@@ -2,6 +2,9 @@
 //
 // That an element is a byte is known where it is passed by value, so each clause is a function of bytes by value.
 // Tests are joined by `&` and `|`: to a proof these are the specification's own `&&` and `||`.
+
+#![tactic(auto)]
+
 ghost use Rattle.std.specs.Prelude.{◌+◌, ◌*◌, ◌^◌, ◌≡◌, [], ◌∷◌};
 ghost use Rattle.machine.specs.WellFormed.{checksum_formed as well_formed_checksum_formed};
 ghost use Rattle.state_clauses.specs.Clauses.{named_formed, flags_formed as clauses_flags_formed, timer_fields_formed, programming_formed, mode_fields_formed, modes_fields_formed, room_of, edition_fields_formed};

@@ -1,5 +1,8 @@
 // The FIFO in the state (manual 3): bytes offered, lost, taken and read, and the alerts. Its read and write positions are added with eight-bit wrap, and
 // a byte's slot is its position's remainder by 64.
+
+#![tactic(auto)]
+
 ghost use Rattle.std.specs.Prelude.{◌≡◌, ◌+◌, ◌-◌, ◌%◌, ◌≤◌, min, [], length, slice_index};
 ghost use Rattle.machine.specs.State.{with_held};
 ghost use Rattle.machine.specs.Fifo.{first_of, rest_of, one_lost as fifo_one_lost, lost_at, lost_of, alerted as fifo_alerted, offered as fifo_offered, offered_all as fifo_offered_all};

@@ -6,6 +6,9 @@
 // compiler to put into them, and would save registers at each call.
 //
 // The clauses are functions of `state_clauses`. Tests are joined by `&`: to a proof this is the specification's own `&&`.
+
+#![tactic(auto)]
+
 ghost use Rattle.std.specs.Prelude.{◌+◌, ◌*◌, ◌^◌, ◌&&◌, ◌≡◌, eqb};
 ghost use Rattle.state.specs.View.{at};
 ghost use Rattle.state.specs.Lent.{clocks_state, clocks_numbers_state, clocks_numbers_state_eeprom};

@@ -1,5 +1,8 @@
 // The timer in the state (manual 5): it is stopped, and it is started by the registers TimerClock (2Ah) and TimerReload (2Ch); the clocks of a
 // step, and the restart.
+
+#![tactic(auto)]
+
 ghost use Rattle.std.specs.Prelude.{◌%◌, ◌^◌, ◌≤◌, not, ◌&&◌, ◌≡◌, eqb};
 ghost use Rattle.bits.specs.Bits.{bit_set};
 ghost use Rattle.machine.specs.State.{Timer, with_timer};

@@ -8,7 +8,7 @@ ghost use Rattle.std.specs.Prelude.{◌≡◌, [], ◌∷◌, get_or};
 ghost use Rattle.edition.specs.FixedBits.{fixed};
 ghost use Rattle.edition.specs.Edition.{fixed_bits as edition_fixed_bits, is_of};
 
-#[derive(Drop)]
+#[derive(Clone, Copy)]
 pub enum Edition {
     Mfrc531,
     Rc530,
@@ -20,7 +20,7 @@ pub const MFRC531: u8 = 0;
 pub const RC530: u8 = 1;
 
 // The fixed bits of one register: a mask of them, and the value that they have.
-#[derive(Drop)]
+#[derive(Clone, Copy)]
 pub struct FixedBits(pub u8, pub u8);
 
 // The tables by position: the entry at 0 is for register 10h.

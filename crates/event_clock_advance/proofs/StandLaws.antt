@@ -8,7 +8,7 @@ use mathlib.Core.List.{List}
 use lib.Dec.{leb, eqb, lit<}
 use lib.ListN.{set}
 use lib.Seq.{set-get_or}
-use borrow.Author.Tests.{eqb-true, leb-true, leb-false, not_false}
+use borrow.Author.Tests.{eqb-true, leb-true, leb-false, not-false}
 use Rattle.bits.specs.Bits.{bit_set}
 use Rattle.machine.specs.State.{Modes, with_modes}
 use Rattle.machine.specs.Power.{modes_clocked, stands_still}
@@ -92,7 +92,7 @@ module _ (c : Chip) (formed : fields_formed c ≡ true) where
   module _ (runs : stands_still (view c) ≡ false) where
     no_numbers : ((core c).stand_by ≡ 0) × ((core c).power_down ≡ 0)
     no_numbers =
-        let (s, p) = each (eqb (core c).stand_by 0) _ (not_false _ (stands_by_numbers c formed ∙ runs)) in
+        let (s, p) = each (eqb (core c).stand_by 0) _ (not-false _ (stands_by_numbers c formed ∙ runs)) in
         (eqb-true (core c).stand_by 0 s, eqb-true (core c).power_down 0 p)
 
     pub hold_stored : (sizes : Sizes c) (stand_by power_down : ℕ) → stand_by ≡ cond bits.0 0x8000 0 → power_down ≡ cond bits.1 0x8000 0 →

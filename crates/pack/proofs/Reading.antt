@@ -8,7 +8,7 @@ use native.Mathlib.Nat.{mul-zero}
 use native.Mathlib.Omega.{arith}
 use lib.ListN.{length, take, drop, length-append, length-drop}
 use lib.Seq.{drop-drop, take_at, drop_at, length-take-le}
-use borrow.Author.Tests.{lt-ltb, not_false}
+use borrow.Author.Tests.{lt-ltb, not-false}
 use Rattle.bits.proofs.Both.{each}
 use Rattle.pack_order.specs.Order.{same}
 use Rattle.pack_order.proofs.Laws.{same_true, true_same}
@@ -128,7 +128,7 @@ pub accepted : (bytes : List ℕ) {ps : List Profile} → reading bytes ≡ done
 unfolding reading
 accepted bytes e =
     let r = passed (not (is_pack bytes)) 14 (done (profiles_in bytes)) e in
-    (not_false (is_pack bytes) r.0, cc r.1)
+    (not-false (is_pack bytes) r.0, cc r.1)
 
 -- In a pack the name is looked for in its list.
 pub finding_in : (bytes name : List ℕ) → is_pack bytes ≡ true → finding bytes name ≡ place_from 0 name (profiles_in bytes)

@@ -37,5 +37,5 @@ asked κs qs a good pre bs =
 
 pub entry_spec : {M : Type 1} → statement M
 entry_spec {M} =
-    tie.close {M = M} λ 𝓛 𝓣. t_fn_plain 𝓛 𝓣 0 lts.ps lts.r lts.xs lts.m lts.hs lts.body (λ κs qs bs. lts.Φ reads.Pre reads.Post)
+    tie.close {M = M} λ 𝓤 𝓛 𝓣. t_fn_plain 𝓛 𝓣 0 lts.ps lts.r lts.xs lts.m lts.hs lts.body (λ κs qs bs. lts.Φ reads.Pre reads.Post)
     (λ κs qs bs bd. lts.typed reads.Pre reads.Post κs qs 𝓛 𝓣 bs bd) reads.Pre reads.Post asked

@@ -4,7 +4,7 @@ use mathlib.Core.Path.{◌≡◌, refl, sym, ap, ◌∙◌}
 use mathlib.Core.Bool.{true}
 use mathlib.Core.List.{[]}
 use mathlib.Core.Logic.{⊎_elim}
-use borrow.Author.Tests.{not-true, not_false}
+use borrow.Author.Tests.{not-true, not-false}
 use Rattle.machine.specs.Refusals.{advance}
 use Rattle.machine.specs.Events.{clocks, advanced}
 use Rattle.state.specs.View.{view, view_of}
@@ -47,8 +47,8 @@ well_formed_lem : (past : tie.Joined1-2) → Whole (at_entry (began past)) → c
 well_formed_lem past whole =
     let asked = past.before in
     let old = at_entry (entered asked) in
-    ⊎_elim (λ x. sym (x.5.ensures old whole.sizes) ∙ not_false _ x.6.left)
-    (λ x. usual_formed old whole.sizes (sym (asked.quick.ensures old) ∙ not_false _ x.0.left) (sym x.3.ensures ∙ not_false _ x.4.left))
+    ⊎_elim (λ x. sym (x.5.ensures old whole.sizes) ∙ not-false _ x.6.left)
+    (λ x. usual_formed old whole.sizes (sym (asked.quick.ensures old) ∙ not-false _ x.0.left) (sym x.3.ensures ∙ not-false _ x.4.left))
     past.if1.came
 
 returns : tie.Need-returns

@@ -1,6 +1,6 @@
 -- `event_frame_deliver::deliver` meets its contract, by the refusals in their order. Assumes nothing.
 use borrow.Author.Rules.{rules}
-use borrow.Author.Tests.{eq-eqb, ne_eqb, not-true, not_false}
+use borrow.Author.Tests.{eq-eqb, ne_eqb, not-true, not-false}
 use Prim.Native.Nat.{ℕ}
 use native.Mathlib.Omega.{arith}
 use mathlib.Core.Path.{◌≡◌, refl, sym, ap, ◌∙◌}
@@ -56,7 +56,7 @@ abbrev start : tie.Else1 → tie.Start
 start past = past.before.before.before.before.before.before.before
 
 well_formed_lem : (past : tie.Else1) (chip : Chip) → Whole (at_entry (start past) chip) → chip_formed (at_entry (start past) chip) ≡ true
-well_formed_lem past chip whole = sym (past.before.formed.ensures (at_entry (start past) chip) whole.sizes) ∙ not_false _ past.if1.false
+well_formed_lem past chip whole = sym (past.before.formed.ensures (at_entry (start past) chip) whole.sizes) ∙ not-false _ past.if1.false
 
 -- Past the second the frame is formed: the number, by whether the chip receives.
 abbrev entered : tie.Else2 → tie.Start
@@ -68,7 +68,7 @@ cast-losing c =
     let receives = c.before.before in
     let past = receives.before.before.before.before.before.before.before.before.before.before.before.before.before.before in
     let a = (entered past).args in
-    let few = few_bytes a.bytes.now a.parities.now a.last-bits (sym past.before.frame-formed.ensures ∙ not_false _ past.if2.false) in
+    let few = few_bytes a.bytes.now a.parities.now a.last-bits (sym past.before.frame-formed.ensures ∙ not-false _ past.if2.false) in
     record { fits = omega (arith, receives.received.ensures.1, few) }
 
 number : (past : tie.Else2) (chip : Chip) → let s = entered past in let old = at_entry s chip in Whole old →
@@ -77,7 +77,7 @@ number past chip whole t u receives stands =
     let s = entered past in
     let a = s.args in
     deliver_judged (at_entry s chip) (well_formed_lem past.before.before chip whole) a.bytes.now a.parities.now a.last-bits
-    past.before.frame-formed.ensures (not_false _ past.if2.false) t u receives stands
+    past.before.frame-formed.ensures (not-false _ past.if2.false) t u receives stands
 
 returns : tie.Need-returns
 returns c chip whole =
@@ -116,7 +116,7 @@ returns-4 c chip whole =
     let past = tested.before.before.before in
     let old = at_entry (entered past) chip in
     refused old (called (entered past)) 3
-    (number past chip whole true true (sym (tested.before.receives.ensures old) ∙ not_false _ tested.if3.false)
+    (number past chip whole true true (sym (tested.before.receives.ensures old) ∙ not-false _ tested.if3.false)
     (sym (stands_by_word old asked.modes-word.result (own_fields_formed old (well_formed_lem past.before.before chip whole)) asked.modes-word.ensures) ∙ ap not (ne_eqb _ 0 c.if4.true))).0 whole
 
 returns-5 : tie.Need-returns-5
@@ -139,7 +139,7 @@ returns-5 c chip whole =
     let turn = then first (judges.alerted.ensures received first.sizes) in
     accepted_here old formed (called s) (with_state judges.alerted.new.0 received) c.losing.result []
     (known_bytes bytes past.before.before.before.before.before.before.before.before.shared-slice-known.given) whole
-    (number past chip whole true false (sym (tested.before.receives.ensures old) ∙ not_false _ tested.if3.false)
+    (number past chip whole true false (sym (tested.before.receives.ensures old) ∙ not-false _ tested.if3.false)
     (sym (stands_by_word old asked.modes-word.result (own_fields_formed old formed) asked.modes-word.ensures) ∙ ap not (eq-eqb _ 0 runs.if4.false)))
     (record {
       answered = c.losing.ensures ∙ ap (λ (n : ℕ). coded (answer.lost n)) lost;

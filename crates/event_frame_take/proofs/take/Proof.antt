@@ -1,6 +1,6 @@
 -- `event_frame_take::take` meets its contract, by the refusals in their order. Assumes nothing.
 use borrow.Author.Rules.{rules}
-use borrow.Author.Tests.{eq-eqb, ne_eqb, not-true, not_false}
+use borrow.Author.Tests.{eq-eqb, ne_eqb, not-true, not-false}
 use Prim.Native.Nat.{ℕ, ◌+◌, ◌*◌, ◌%◌}
 use native.Mathlib.Omega.{arith}
 use mathlib.Core.Path.{◌≡◌, refl, sym, ap, ◌∙◌}
@@ -27,7 +27,7 @@ abbrev entered : tie.After-formed → tie.Start
 entered judged = judged.before.before.before.before
 
 well_formed_lem : (past : tie.Else1) (chip : Chip) → let old = at_entry (entered past.before) chip in Whole old → chip_formed old ≡ true
-well_formed_lem past chip whole = sym (past.before.formed.ensures (at_entry (entered past.before) chip) whole.sizes) ∙ not_false _ past.if1.false
+well_formed_lem past chip whole = sym (past.before.formed.ensures (at_entry (entered past.before) chip) whole.sizes) ∙ not-false _ past.if1.false
 
 formed-requires : tie.Need-formed-requires
 formed-requires c κs = search rules
@@ -78,7 +78,7 @@ returns-4 c chip whole =
     let buffer = s.args.buffer.now in
     let formed = well_formed_lem past.before chip whole in
     let number =
-    take_judged old formed buffer (omega arith) true true (sym (judged.frame-waits.ensures old) ∙ not_false _ waiting.if3.false)
+    take_judged old formed buffer (omega arith) true true (sym (judged.frame-waits.ensures old) ∙ not-false _ waiting.if3.false)
     (sym (stands_by_word old asked.modes-word.result (own_fields_formed old formed) asked.modes-word.ensures) ∙ ap not (ne_eqb _ 0 c.if4.true)) in
     refused old (take_frame buffer) 3 number.0 whole
 
@@ -126,7 +126,7 @@ returns-5 c chip whole =
     let goes = c.taken.ensures old whole.sizes in
     accepted_here old formed (take_frame buffer) (with_clocks c.taken.new.0 (with_state c.taken.new.1.0 old)) _ fills.frame-into.new.1.1.1.0
     (known_bytes buffer past.before.before.before.before.before.slice-known.given) whole
-    (take_judged old formed buffer (omega arith) true false (sym (judged.frame-waits.ensures old) ∙ not_false _ waiting.if3.false)
+    (take_judged old formed buffer (omega arith) true false (sym (judged.frame-waits.ensures old) ∙ not-false _ waiting.if3.false)
     (sym (stands_by_word old asked.modes-word.result (own_fields_formed old formed) asked.modes-word.ensures) ∙ ap not (eq-eqb _ 0 runs.if4.false)))
     (record {
       answered = ap (λ (n : ℕ). 0x100 * n + 0x1_0000 * (at s.args.state.now 16 % 8)) puts.counted;

@@ -1,6 +1,6 @@
 -- `event_host_read::host_read` meets its contract, by the refusals in their order, and by the register. Assumes nothing.
 use borrow.Author.Rules.{rules}
-use borrow.Author.Tests.{lt-ltb, not-true, not_false}
+use borrow.Author.Tests.{lt-ltb, not-true, not-false}
 use native.Mathlib.Omega.{arith}
 use mathlib.Core.Path.{◌≡◌, sym, ap, ◌∙◌}
 use mathlib.Core.Bool.{Bool, true}
@@ -30,8 +30,8 @@ well_formed_lem : (past : tie.Joined1-2) (chip : Chip) → Whole (at_entry (ente
 well_formed_lem past chip whole =
     let asked = past.before in
     let old = at_entry (entered asked) chip in
-    ⊎_elim (λ x. sym (x.2.ensures old whole.sizes) ∙ not_false _ x.3.left)
-    (λ x. usual_formed old whole.sizes (sym (asked.quick.ensures old) ∙ not_false _ x.0.left) (sym x.2.ensures ∙ not_false _ x.3.left))
+    ⊎_elim (λ x. sym (x.2.ensures old whole.sizes) ∙ not-false _ x.3.left)
+    (λ x. usual_formed old whole.sizes (sym (asked.quick.ensures old) ∙ not-false _ x.0.left) (sym x.2.ensures ∙ not-false _ x.3.left))
     past.if1.came
 
 -- Past the address's test too, with the register found.

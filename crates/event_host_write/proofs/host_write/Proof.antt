@@ -1,6 +1,6 @@
 -- `event_host_write::host_write` meets its contract, by the refusals in their order, and then by the way that the code takes. Assumes nothing.
 use borrow.Author.Rules.{rules}
-use borrow.Author.Tests.{lt-ltb, not-true, not_false}
+use borrow.Author.Tests.{lt-ltb, not-true, not-false}
 use native.Mathlib.Omega.{arith}
 use mathlib.Core.Path.{◌≡◌, refl, sym, ap, ◌∙◌}
 use mathlib.Core.Bool.{Bool, true}
@@ -33,8 +33,8 @@ well_formed_lem : (past : tie.Joined1-2) → Whole (at_entry (entered past.befor
 well_formed_lem past whole =
     let asked = past.before in
     let old = at_entry (entered asked) in
-    ⊎_elim (λ x. sym (x.4.ensures old whole.sizes) ∙ not_false _ x.5.left)
-    (λ x. usual_formed old whole.sizes (sym (asked.quick.ensures old) ∙ not_false _ x.0.left) (sym x.2.ensures ∙ not_false _ x.3.left))
+    ⊎_elim (λ x. sym (x.4.ensures old whole.sizes) ∙ not-false _ x.5.left)
+    (λ x. usual_formed old whole.sizes (sym (asked.quick.ensures old) ∙ not-false _ x.0.left) (sym x.2.ensures ∙ not-false _ x.3.left))
     past.if1.came
 
 -- Past the address's test too, with the register found.

@@ -1,6 +1,6 @@
 -- `event_image_start::start` meets its contract, by the image's length and by whose it is. Assumes nothing.
 use borrow.Author.Rules.{rules}
-use borrow.Author.Tests.{eq-eqb, ne_eqb, not-true, not_false}
+use borrow.Author.Tests.{eq-eqb, ne_eqb, not-true, not-false}
 use native.Mathlib.Omega.{arith}
 use Prim.Native.Nat.{ℕ}
 use mathlib.Core.Path.{◌≡◌, refl, sym, ap, ◌∙◌}
@@ -85,7 +85,7 @@ returns-3 c whole =
     let image = s.args.image.now in
     let rc530 = asked.before.is-of.result in
     let size = asked.before.before.if1.false in
-    let either = of_either_lem asked (not_false _ passed.if2.false) in
+    let either = of_either_lem asked (not-false _ passed.if2.false) in
     let eeprom = stores.store-image.new.0 in
     let registers = c.load-registers.new.0 in
     let stored = stores.store-image.ensures whole.sizes.eeprom_count in

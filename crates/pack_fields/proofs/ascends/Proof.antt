@@ -1,6 +1,6 @@
 -- `pack_fields::ascends` meets its contract. Assumes nothing.
 use borrow.Author.Rules.{rules}
-use borrow.Author.Tests.{not-true, not_false}
+use borrow.Author.Tests.{not-true, not-false}
 use mathlib.Core.Path.{◌≡◌, sym, ◌∙◌, subst}
 use mathlib.Core.Logic.{⊎_elim}
 use mathlib.Core.Bool.{true, false}
@@ -115,7 +115,7 @@ loop-again c =
     let a = turn.before.before.args in
     let apart = 16 + a.between in
     let i = turn.loop.i in
-    let told = sym (neighbours a.names.now apart turn.loop.first i turn.loop.invariant.0) ∙ sym c.before.before2.ensures ∙ not_false _ c.if1.false in
+    let told = sym (neighbours a.names.now apart turn.loop.first i turn.loop.invariant.0) ∙ sym c.before.before2.ensures ∙ not-false _ c.if1.false in
     (omega (arith, mul-suc apart i), omega arith, up_to i told turn.loop.invariant.2)
 
 returns-2 : tie.Need-returns-2 invariant_loop decreases_loop

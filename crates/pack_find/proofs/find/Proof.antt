@@ -1,6 +1,6 @@
 -- `pack_find::find` meets its contract. Assumes nothing.
 use borrow.Author.Rules.{rules}
-use borrow.Author.Tests.{not-true, not_false}
+use borrow.Author.Tests.{not-true, not-false}
 use mathlib.Core.Path.{sym, ap, ◌∙◌}
 use Rattle.pack.specs.Outcome.{numbered}
 use Rattle.pack.specs.Find.{offset_of}
@@ -24,7 +24,7 @@ find-checked-requires c κs = search rules
 returns-2 : tie.Need-returns-2
 returns-2 c =
     let a = c.before.before.before.before.before.args in
-    let whole = sym c.before.before.is-pack.ensures ∙ not_false _ c.before.if1.false in
+    let whole = sym c.before.before.is-pack.ensures ∙ not-false _ c.before.if1.false in
     c.find-checked.ensures ∙ ap (numbered offset_of) (packs.by_halving a.pack.now (accepts a.pack.now whole) a.name.now)
 
 pub find_spec : {M : Type 1} → statement M

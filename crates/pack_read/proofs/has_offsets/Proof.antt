@@ -1,6 +1,6 @@
 -- `pack_read::has_offsets` meets its contract. Assumes nothing.
 use borrow.Author.Rules.{rules}
-use borrow.Author.Tests.{not-true, not_false}
+use borrow.Author.Tests.{not-true, not-false}
 use mathlib.Core.Path.{◌≡◌, refl, sym, ap, ◌∙◌}
 use mathlib.Core.Bool.{Bool, ◌&&◌}
 use mathlib.Core.List.{List}
@@ -83,7 +83,7 @@ loop-again c =
     let turn = c.before.before.before.before.before.before in
     let a = turn.before.before.args in
     let i = turn.loop.i in
-    let told = judged a.index.now i c.before.same.result c.before.before.before.four_bytes.ensures c.before.same.ensures ∙ not_false _ c.if1.false in
+    let told = judged a.index.now i c.before.same.result c.before.before.before.four_bytes.ensures c.before.same.ensures ∙ not-false _ c.if1.false in
     let next : 32 * i + 32 ≡ 32 * (i + 1) = omega arith in (
       omega arith,
       turn.loop.invariant.1

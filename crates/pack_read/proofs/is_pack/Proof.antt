@@ -1,6 +1,6 @@
 -- `pack_read::is_pack` meets its contract. Assumes nothing.
 use borrow.Author.Rules.{rules}
-use borrow.Author.Tests.{not-true, not_false}
+use borrow.Author.Tests.{not-true, not-false}
 use mathlib.Core.Path.{◌≡◌, sym, ap, ◌∙◌}
 use mathlib.Core.List.{List}
 use Prim.Native.Nat.{ℕ, ◌+◌, ◌-◌, ◌*◌, ◌/◌}
@@ -135,8 +135,8 @@ returns-4 c =
     ∙ sym (entries_told pack count (λ (n : ℕ) (l : List ℕ). ascending (profiles_of 20 ((length l + 4) / 20) l pack)))
     ∙ ap (λ (k : ℕ). ascending (profiles_of 20 k entries pack)) number
     ∙ sym (by_names pack size
-    (trailer_told pack count ∙ sym c.before.before.before.before.before.before.is-trailer.ensures ∙ not_false _ c.before.before.before.before.before.if2.false)
-    (entries_told pack count (λ (n : ℕ) (entries : List ℕ). offsets_from 0 n entries) ∙ sym c.before.before.before.has-offsets.ensures ∙ not_false _ c.before.before.if3.false))
+    (trailer_told pack count ∙ sym c.before.before.before.before.before.before.is-trailer.ensures ∙ not-false _ c.before.before.before.before.before.if2.false)
+    (entries_told pack count (λ (n : ℕ) (entries : List ℕ). offsets_from 0 n entries) ∙ sym c.before.before.before.has-offsets.ensures ∙ not-false _ c.before.before.if3.false))
 
 pub is_pack_spec : {M : Type 1} → statement M
 is_pack_spec =

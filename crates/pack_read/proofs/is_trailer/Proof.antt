@@ -1,6 +1,6 @@
 -- `pack_read::is_trailer` meets its contract. Assumes nothing.
 use borrow.Author.Rules.{rules}
-use borrow.Author.Tests.{not-true, not_false}
+use borrow.Author.Tests.{not-true, not-false}
 use mathlib.Core.Path.{◌≡◌, sym, ap, ◌∙◌}
 use mathlib.Core.Bool.{Bool}
 use mathlib.Core.List.{List}
@@ -88,8 +88,8 @@ returns-3 : tie.Need-returns-3
 returns-3 c =
     let a = c.before.before.before.before.before.before.before.before.before.before.before.before.before.before.args in
     let bytes = a.bytes.now in
-    let first = true_same (take 4 bytes) (four_bytes (32 * a.number)) (judged (take 4 bytes) (32 * a.number) c.before.before.before.before.before.before.before.before.before.before.before.four_bytes.ensures c.before.before.before.before.before.before.before.before.before.same.ensures ∙ not_false _ c.before.before.before.before.before.before.before.before.if1.false) in
-    let second = true_same (take 4 (drop 4 bytes)) (four_bytes a.number) (judged (take 4 (drop 4 bytes)) a.number c.before.before.before.before.before.before.four-bytes2.ensures c.before.before.before.before.same2.ensures ∙ not_false _ c.before.before.before.if2.false) in
+    let first = true_same (take 4 bytes) (four_bytes (32 * a.number)) (judged (take 4 bytes) (32 * a.number) c.before.before.before.before.before.before.before.before.before.before.before.four_bytes.ensures c.before.before.before.before.before.before.before.before.before.same.ensures ∙ not-false _ c.before.before.before.before.before.before.before.before.if1.false) in
+    let second = true_same (take 4 (drop 4 bytes)) (four_bytes a.number) (judged (take 4 (drop 4 bytes)) a.number c.before.before.before.before.before.before.four-bytes2.ensures c.before.before.before.before.same2.ensures ∙ not-false _ c.before.before.before.if2.false) in
     c.same3.ensures
     ∙ same_alike (take 4 (drop 8 bytes)) (ascii "RC53") bytes (trailer a.number)
     (λ mark. of_parts bytes a.number (search rules) (record { offset = first; number = second; mark = mark })) (λ is. (parts_of bytes a.number is).mark)

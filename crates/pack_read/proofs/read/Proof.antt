@@ -1,6 +1,6 @@
 -- `pack_read::read` meets its contract. Assumes nothing.
 use borrow.Author.Rules.{rules}
-use borrow.Author.Tests.{not-true, not_false}
+use borrow.Author.Tests.{not-true, not-false}
 use mathlib.Core.Path.{sym, ap, ◌∙◌}
 use Prim.Native.Nat.{ℕ, ◌*◌}
 use lib.ListN.{length}
@@ -35,7 +35,7 @@ returns-2 : tie.Need-returns-2
 returns-2 c =
     let pack = c.before.before.before.before.args.pack.now in
     ap (λ (k : ℕ). 256 * k) (c.count.ensures ∙ sym (length_in pack))
-    ∙ sym (ap (numbered length) (accepts pack (sym c.before.before.is-pack.ensures ∙ not_false _ c.before.if1.false)))
+    ∙ sym (ap (numbered length) (accepts pack (sym c.before.before.is-pack.ensures ∙ not-false _ c.before.if1.false)))
 
 pub read_spec : {M : Type 1} → statement M
 read_spec =

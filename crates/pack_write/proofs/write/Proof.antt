@@ -1,6 +1,6 @@
 -- `pack_write::write` meets its contract: each test refuses as `writing` does, and what is put behind them is the pack. Assumes nothing.
 use borrow.Author.Rules.{rules}
-use borrow.Author.Tests.{not-true, not_false}
+use borrow.Author.Tests.{not-true, not-false}
 use mathlib.Core.Path.{◌≡◌, ◌∙◌}
 use Prim.Native.Nat.{◌+◌, ◌*◌, ◌≤◌}
 use native.Mathlib.Omega.{arith}
@@ -55,7 +55,7 @@ returns-6 c =
     let names = a.names.now in
     let bodies = a.bodies.now in
     let told = as_told names bodies (omega arith) (omega arith) (c.before.before.ascends.ensures bodies) in
-    refuses (too_short names bodies (omega arith) (omega arith) (length a.buffer.now) (omega arith) (told ∙ not_false _ c.before.if5.false) (omega arith)) a.buffer.now
+    refuses (too_short names bodies (omega arith) (omega arith) (length a.buffer.now) (omega arith) (told ∙ not-false _ c.before.if5.false) (omega arith)) a.buffer.now
 
 put-requires : tie.Need-put-requires
 put-requires c κs = search rules
@@ -88,7 +88,7 @@ returns-7 c =
     let names-fit : length names ≡ 16 * body_count bodies = omega (arith, passed.before.before.before.before.if3.false, passed.before.before.before.before.before.if2.false) in
     let bodies-fit : length bodies ≡ 32 * body_count bodies = omega (arith, passed.before.before.before.before.before.before.if1.false) in
     let few : body_count bodies ≤ 256 = omega (arith, passed.before.before.before.if4.false) in
-    let told = as_told names bodies names-fit bodies-fit (passed.before.before.ascends.ensures bodies) ∙ not_false _ passed.before.if5.false in
+    let told = as_told names bodies names-fit bodies-fit (passed.before.before.ascends.ensures bodies) ∙ not-false _ passed.before.if5.false in
     let enough : 52 * body_count bodies + 12 ≤ room = omega (arith, passed.if6.false) in
     let fit = can_be_written names bodies names-fit bodies-fit room few told in
     writes (written (body_count bodies) names bodies fit room enough)

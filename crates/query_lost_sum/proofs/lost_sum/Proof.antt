@@ -1,6 +1,6 @@
 -- `query_lost_sum::lost_sum` meets its contract, by whether the chip is well formed. Assumes nothing.
 use borrow.Author.Rules.{rules}
-use borrow.Author.Tests.{not-true, not_false}
+use borrow.Author.Tests.{not-true, not-false}
 use mathlib.Core.Bool.{Bool, true, cond}
 use mathlib.Core.Logic.{⊎_elim}
 use mathlib.Core.Path.{◌≡◌, sym, ap, ◌∙◌}
@@ -26,8 +26,8 @@ well_formed_lem : (past : tie.Joined1-2) (chip : Chip) → Sizes (at_entry (ente
 well_formed_lem past chip sizes =
     let asked = past.before in
     let old = at_entry (entered asked) chip in
-    ⊎_elim (λ x. sym (x.1.ensures old sizes) ∙ not_false _ x.2.left)
-    (λ x. usual_formed old sizes (sym (asked.quick.ensures old) ∙ not_false _ x.0.left) (sym x.1.ensures ∙ not_false _ x.2.left))
+    ⊎_elim (λ x. sym (x.1.ensures old sizes) ∙ not-false _ x.2.left)
+    (λ x. usual_formed old sizes (sym (asked.quick.ensures old) ∙ not-false _ x.0.left) (sym x.1.ensures ∙ not-false _ x.2.left))
     past.if1.came
 
 quick-requires : tie.Need-quick-requires

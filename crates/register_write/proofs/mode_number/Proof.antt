@@ -1,5 +1,5 @@
 -- `register_write::mode_number` meets its contract, by its tests. Assumes nothing.
-use borrow.Author.Tests.{eq-eqb, ne_eqb, lt-leb, le-leb, lt-ltb, le-ltb, not-true, not_false}
+use borrow.Author.Tests.{eq-eqb, ne_eqb, lt-leb, le-leb, lt-ltb, le-ltb, not-true, not-false}
 use native.Mathlib.Omega.{arith}
 use Prim.Native.Nat.{ℕ, ◌-◌, ◌<◌, ◌≤◌}
 use mathlib.Core.Path.{◌≡◌, refl, sym}
@@ -29,13 +29,13 @@ module _ (number begun : ℕ) {was : Bool} where
   module _ (on : not was ≡ false) where
     -- A mode that waits: it still does, or is off.
     waits : (bit programs : Bool) → number < 0x8000 → NumberWritten was number bit programs begun 0
-    waits true programs low = record { mode = simp (not_false was on, lt-ltb number 0x8000 low); agrees = refl }
-    waits false programs low = record { mode = simp (not_false was on, lt-leb 0x8000 number low, lt-ltb number 0x8000 low); agrees = refl }
+    waits true programs low = record { mode = simp (not-false was on, lt-ltb number 0x8000 low); agrees = refl }
+    waits false programs low = record { mode = simp (not-false was on, lt-leb 0x8000 number low, lt-ltb number 0x8000 low); agrees = refl }
 
     -- One with hold, by a 1, and by a 0 before its leaving and within it.
     module _ (programs : Bool) {bit : Bool} (high : 0x8000 ≤ number) where
       keeps_hold : bit ≡ true → NumberWritten was number bit programs begun 0x8000
-      keeps_hold set = record { mode = simp (set, not_false was on, le-ltb number 0x8000 high) held; agrees = simp set }
+      keeps_hold set = record { mode = simp (set, not-false was on, le-ltb number 0x8000 high) held; agrees = simp set }
         where
           held : in_hold ≡ mode_written (begun - 0x8000) programs true (cond (eqb number 0x8000) in_hold (leaving (number - 0x8000)))
           held = either (λ x. in_hold ≡ mode_written (begun - 0x8000) programs true x) (eqb number 0x8000) in_hold (leaving (number - 0x8000)) refl refl
@@ -44,8 +44,8 @@ module _ (number begun : ℕ) {was : Bool} where
         leaves : (next : ℕ) → 0x8000 < next → mode_written (begun - 0x8000) programs false (mode_of true number) ≡ leaving (next - 0x8000) → NumberWritten was number bit programs begun next
         leaves next some is =
             record {
-              mode = simp (cleared, not_false was on, le-leb 0x8000 number high, le-ltb next 0x8000 (omega arith), ne_eqb next 0x8000 (λ e. omega (arith, e))) (sym is);
-              agrees = simp (cleared, not_false was on, le-leb 0x8000 number high, le-leb 0x8000 next (omega arith), ne_eqb next 0 (λ e. omega (arith, e)));
+              mode = simp (cleared, not-false was on, le-leb 0x8000 number high, le-ltb next 0x8000 (omega arith), ne_eqb next 0x8000 (λ e. omega (arith, e))) (sym is);
+              agrees = simp (cleared, not-false was on, le-leb 0x8000 number high, le-leb 0x8000 next (omega arith), ne_eqb next 0 (λ e. omega (arith, e)));
             }
 
         begins : 0x8000 < begun → number ≡ 0x8000 → NumberWritten was number bit programs begun begun

@@ -3,7 +3,7 @@ use mathlib.Core.Path.{◌≡◌, refl, sym, ap, ◌∙◌}
 use mathlib.Core.Bool.{Bool, ◌&&◌}
 use lib.Dec.{eqb, ltb}
 use borrow.Author.Rules.{rules}
-use borrow.Author.Tests.{eq-eqb, ne_eqb, lt-ltb, le-ltb, not-true, not_false}
+use borrow.Author.Tests.{eq-eqb, ne_eqb, lt-ltb, le-ltb, not-true, not-false}
 use Rattle.state.specs.View.{Core, core, held_count}
 use Rattle.state.specs.Lent.{clocks_state}
 use Rattle.state.specs.declared.Chip.{Chip}
@@ -114,7 +114,7 @@ timer-kept-requires c κs = search rules
 returns-4 : tie.Need-returns-4
 returns-4 c chip =
     let past = c.before.before.before.before.before in
-    c.timer-kept.ensures ∙ sym (resting past.before chip (not_false _ past.if3.false))
+    c.timer-kept.ensures ∙ sym (resting past.before chip (not-false _ past.if3.false))
 
 pub passes_spec : {M : Type 1} → statement M
 passes_spec =

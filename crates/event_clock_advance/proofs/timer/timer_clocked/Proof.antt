@@ -6,7 +6,7 @@ use mathlib.Core.Bool.{true}
 use lib.Dec.{eqb, lit<}
 use lib.ListN.{set}
 use borrow.Author.Rules.{rules}
-use borrow.Author.Tests.{eq-eqb, ne_eqb, leb-true, leb-false, not-true, not_false}
+use borrow.Author.Tests.{eq-eqb, ne_eqb, leb-true, leb-false, not-true, not-false}
 use Rattle.bits.specs.Bits.{bit_set}
 use Rattle.machine.specs.Timer.{raised_timer}
 use Rattle.machine.specs.ManyClocks.{timer_after}
@@ -43,7 +43,7 @@ goes_on_still : (c : tie.Then2) → steps c.before < value c.before
 goes_on_still c = leb-false (value c.before) (steps c.before) (sym c.before.comes-to-end.ensures ∙ not-true _ c.if2.true)
 
 comes_to_its_end : (c : tie.Else2) → value c.before ≤ steps c.before
-comes_to_its_end c = omega (arith, leb-true (value c.before) (steps c.before) (sym c.before.comes-to-end.ensures ∙ not_false _ c.if2.false))
+comes_to_its_end c = omega (arith, leb-true (value c.before) (steps c.before) (sym c.before.comes-to-end.ensures ∙ not-false _ c.if2.false))
 
 -- The timer runs.
 runs : (asked : tie.After-comes-to-end) → eqb (at (began asked).args.state.now 8) 1 ≡ true

@@ -152,7 +152,7 @@ module _ (image : List ℕ) (m : Machine) (j : Journal) (a : AgreesWith image m 
 
   -- A call that is no host read, and one that is not refused.
   no_read : (c : Call) {X : Type 0} → is_read c ≡ false → ReadOf m c 0x02 → X
-  no_read c is r = absurd (true≢false (sym (ap is_read r.is_read) ∙ is))
+  no_read c is r = absurd (true≢false (sym (ap is_read r.is_read_lem) ∙ is))
 
   no_refusal : (c : Call) {X : Type 0} (n : ℕ) → refusal m c ≡ 0 → refusal m c ≡ suc n → X
   no_refusal c n ok is = absurd (let z : ◌≡◌ {A = ℕ} 0 (suc n) = sym ok ∙ is in omega arith)
@@ -211,7 +211,7 @@ module _ (image : List ℕ) (m : Machine) (j : Journal) (a : AgreesWith image m 
       go true is = leaves (eqb-true _ 0x02 is) j.held refl
       go false is =
           inside_parts (host_read address) m j [] (sym (append-nil j.entries)) inside_none (λ n z. refl)
-          (λ r. absurd (true≢false (sym (eq-eqb _ 0x02 (at_page r.address r.is_read r.at_register)) ∙ is))) (same_waiting [] m refl refl)
+          (λ r. absurd (true≢false (sym (eq-eqb _ 0x02 (at_page r.address r.is_read_lem r.at_register)) ∙ is))) (same_waiting [] m refl refl)
         where
           address_of : Call → ℕ
           address_of (start image') = 0

@@ -159,7 +159,7 @@ module _ (P : Entry → Type 0) where
     offer_adds b j = go (ltb (length j.held) 64)
       where
         go : (t : Bool) → Adds j (cond t (record { entries = j.entries ++ e.taken_in b ∷ []; held = j.held ++ b ∷ []; base = j.base; count = j.count }) (entered (e.turned_away b) j))
-        go true = adds_one j _ (e.taken_in b) refl (moved.taken_in b)
+        go true = adds_one j _ (e.taken_in b) refl (moved.taken_in_lem b)
         go false = adds_one j _ (e.turned_away b) refl (moved.turned_away_lem b)
 
     pub offers_add : (bs : List ℕ) (j : Journal) → Adds j (offer_all bs j)

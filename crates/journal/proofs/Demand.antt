@@ -67,8 +67,8 @@ module _ (image : List ℕ) where
     reads : (register b : ℕ) → register_read register m ≡ b → ReadAnswers m register b
     unfolding read_byte
     reads register b is c r =
-        let ok = subst (λ (x : Call). refusal m x ≡ 0) r.is_read r.not_refused in
-        ap (λ (x : Call). (perform m x).answer) r.is_read
+        let ok = subst (λ (x : Call). refusal m x ≡ 0) r.is_read_lem r.not_refused in
+        ap (λ (x : Call). (perform m x).answer) r.is_read_lem
         ∙ ap (λ (o : Outcome). o.answer) (as_accepted m (host_read r.address) ok)
         ∙ ap (λ (z : ℕ). byte (register_read z m)) r.at_register
         ∙ ap byte is

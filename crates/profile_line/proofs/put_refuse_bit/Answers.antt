@@ -1,0 +1,11 @@
+-- `profile_line::put_refuse_bit` meets its contract, piece after piece. Assumes nothing.
+use borrow.Author.Rules.{rules}
+use Rattle.profile_line.proofs.Laws.{add_both}
+use Rattle.profile_line.proofs.put_refuse_bit.Goals as goal
+
+pub returns : goal.returns
+returns c =
+    let decimal = c.before.before in
+    let word = decimal.before.before.before.before in
+    let place = word.before.before.before.before.before in
+    (search rules, add_both place.put_refuse_at-next.ensures.1 (add_both word.put-place.ensures.1 decimal.put_decimal.ensures.1))

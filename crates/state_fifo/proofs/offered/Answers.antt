@@ -1,0 +1,34 @@
+-- `state_fifo::offered` meets its contract, by whether there is room. Assumes nothing.
+use Rattle.std.proofs.Common.{◌≤◌, length, arith}
+use Rattle.machine.specs.Fifo.{offered}
+use Rattle.state.specs.View.{view, view_of}
+use Rattle.state.specs.Lent.{numbers_state_slots}
+use Rattle.state.proofs.RingLaws.{count_length}
+use Rattle.state.proofs.TurnLaws.{becomes}
+use Rattle.state_fifo.proofs.FifoLaws.{offer_lost, none_lost, one_is_lost, stored_byte}
+use Rattle.state_fifo.proofs.offered.Goals as goal
+
+pub returns-then-held-ge64 : goal.returns-then-held-ge64
+unfolding view_of
+returns-then-held-ge64 c =
+    let past = c.before.before.before.before in
+    let a = past.args in record {
+      turns = λ chip sizes.
+          let old = numbers_state_slots a.numbers.now a.state.now a.slots.now chip in
+          let full : 64 ≤ length (view old).held = omega (arith, count_length past.held.ensures a.slots.now) in
+          (becomes (offered a.byte) (c.one_lost.ensures old sizes) (offer_lost a.byte (view old) full), one_is_lost (view old) full);
+      small = omega arith;
+    }
+
+pub returns : goal.returns
+unfolding view_of
+returns c =
+    let past = c.before.before.before in
+    let a = past.args in record {
+      turns = λ chip sizes.
+          let old = numbers_state_slots a.numbers.now a.state.now a.slots.now chip in (
+            stored_byte a.state.now a.slots.now past.held.ensures (omega arith) a.byte c.wrapping_add_u8.result c.wrapping_add_u8.ensures.value old sizes,
+            none_lost (view old) (omega (arith, count_length past.held.ensures a.slots.now)),
+          );
+      small = omega arith;
+    }

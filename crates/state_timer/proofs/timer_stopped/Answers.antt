@@ -1,0 +1,10 @@
+-- `state_timer::timer_stopped` meets its contract: its callee sets the value that there was. Assumes nothing.
+use mathlib.Core.Path.{refl}
+use Rattle.machine.specs.Timer.{timer_stopped}
+use Rattle.state.specs.View.{view_of}
+use Rattle.state.proofs.TurnLaws.{becomes}
+use Rattle.state_timer.proofs.timer_stopped.Goals as goal
+
+pub returns : goal.returns
+unfolding view_of
+returns c chip sizes = becomes timer_stopped (c.timer_set.ensures chip sizes) refl

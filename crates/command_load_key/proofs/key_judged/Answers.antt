@@ -15,7 +15,7 @@ returns-then-judged c chip sizes =
     let l = a.state.now in
     let key = a.key.now in
     -- the key that was made has six bytes by its type
-    let six = sym (length-map made.result.bytes (λ b. b)) ∙ made.type-inv.1.1.1.0.1.0.1 in
+    let six = made.type_inv.1.1.1.0.1.0.1 in
     becomes (key_judged a.bytes) (key_stored l key made.result.bytes 1 refl six chip sizes)
     (judged_loaded (view (state_key l key chip)) a.bytes made.result.bytes (sym made.ensures.0 ∙ c.if-judged.true) made.ensures.1)
 

@@ -25,11 +25,11 @@ use Rattle.event_frame_deliver.proofs.deliver.Goals.{Else-not-formed, Else-not-f
 well_formed_lem : (past : Else-not-formed) (chip : Chip) → Whole ((clocks_numbers_state_registers_slots_eeprom past.args.clocks.now past.args.numbers.now past.args.state.now past.args.registers.now past.args.slots.now past.args.eeprom.now) chip) → chip_formed ((clocks_numbers_state_registers_slots_eeprom past.args.clocks.now past.args.numbers.now past.args.state.now past.args.registers.now past.args.slots.now past.args.eeprom.now) chip) ≡ true
 well_formed_lem past chip whole = sym (past.formed.ensures ((clocks_numbers_state_registers_slots_eeprom past.args.clocks.now past.args.numbers.now past.args.state.now past.args.registers.now past.args.slots.now past.args.eeprom.now) chip) whole.sizes) ∙ past.if-not-formed.false
 
-number : (past : Else-not-frame_formed) (chip : Chip) →let old = (clocks_numbers_state_registers_slots_eeprom past.args.clocks.now past.args.numbers.now past.args.state.now past.args.registers.now past.args.slots.now past.args.eeprom.now) chip in Whole old →
+number : (past : Else-not-frame_formed) (chip : Chip) → let old = (clocks_numbers_state_registers_slots_eeprom past.args.clocks.now past.args.numbers.now past.args.state.now past.args.registers.now past.args.slots.now past.args.eeprom.now) chip in chip_formed old ≡ true →
     (t u : Bool) → receiving (view old).command ≡ t → stands_still (view old) ≡ u → let n = refuse_if (not t) 4 (refuse_if u 4 0) in (chip_refusal old (deliver past.args.bytes.now past.args.parities.now past.args.last_bits) ≡ n) × (refusal (view old) (deliver past.args.bytes.now past.args.parities.now past.args.last_bits) ≡ n)
-number past chip whole t u receives stands =
+number past chip formed t u receives stands =
     let a = past.args in
-    deliver_judged ((clocks_numbers_state_registers_slots_eeprom past.args.clocks.now past.args.numbers.now past.args.state.now past.args.registers.now past.args.slots.now past.args.eeprom.now) chip) (well_formed_lem past chip whole) a.bytes.now a.parities.now a.last_bits
+    deliver_judged ((clocks_numbers_state_registers_slots_eeprom past.args.clocks.now past.args.numbers.now past.args.state.now past.args.registers.now past.args.slots.now past.args.eeprom.now) chip) formed a.bytes.now a.parities.now a.last_bits
     past.frame_formed.ensures past.if-not-frame_formed.false t u receives stands
 
 -- What is lost is at most the frame.
@@ -55,28 +55,28 @@ returns-then-not-frame_formed c chip whole =
 pub returns-then-not-receives : goal.returns-then-not-receives
 returns-then-not-receives c chip whole =
     let old = (clocks_numbers_state_registers_slots_eeprom c.args.clocks.now c.args.numbers.now c.args.state.now c.args.registers.now c.args.slots.now c.args.eeprom.now) chip in
-    refused old (deliver c.args.bytes.now c.args.parities.now c.args.last_bits) 3 (number (goal.at.returns-then-not-receives c).Else-not-frame_formed chip whole false _ (sym (c.receives.ensures old) ∙ c.if-not-receives.true) refl).0 whole
+    refused old (deliver c.args.bytes.now c.args.parities.now c.args.last_bits) 3 (number (goal.at.returns-then-not-receives c).Else-not-frame_formed chip (well_formed_lem (goal.at.returns-then-not-receives c).Else-not-formed chip whole) false _ (sym (c.receives.ensures old) ∙ c.if-not-receives.true) refl).0 whole
 
 pub returns-then-modes_word-ne0 : goal.returns-then-modes_word-ne0
 returns-then-modes_word-ne0 c chip whole =
     let old = (clocks_numbers_state_registers_slots_eeprom c.args.clocks.now c.args.numbers.now c.args.state.now c.args.registers.now c.args.slots.now c.args.eeprom.now) chip in
     refused old (deliver c.args.bytes.now c.args.parities.now c.args.last_bits) 3
-    (number (goal.at.returns-then-modes_word-ne0 c).Else-not-frame_formed chip whole true true (sym (c.receives.ensures old) ∙ c.if-not-receives.false)
+    (number (goal.at.returns-then-modes_word-ne0 c).Else-not-frame_formed chip (well_formed_lem (goal.at.returns-then-modes_word-ne0 c).Else-not-formed chip whole) true true (sym (c.receives.ensures old) ∙ c.if-not-receives.false)
     (sym (stands_by_word old c.modes_word.result (own_fields_formed old (well_formed_lem (goal.at.returns-then-modes_word-ne0 c).Else-not-formed chip whole)) c.modes_word.ensures) ∙ ap not (ne_eqb _ 0 c.if-modes_word-ne0.true))).0 whole
 
 pub returns : goal.returns
 returns c chip whole =
-    let a = s.args in
+    let a = c.args in
     let bytes = a.bytes.now in
-    let old = at_entry s chip in
+    let old = (clocks_numbers_state_registers_slots_eeprom c.args.clocks.now c.args.numbers.now c.args.state.now c.args.registers.now c.args.slots.now c.args.eeprom.now) chip in
     let l = c.received-lost.new in
-    let received = clocks_numbers_state l.0 l.1.0 l.1.1.0 (with_slots l.1.1.1.1.0 old) in
+    let received = clocks_numbers_state l.clocks l.numbers l.state (with_slots l.slots old) in
     let formed = well_formed_lem (goal.at.returns c).Else-not-formed chip whole in
     let (first, lost) = c.received-lost.ensures.turns old whole.sizes in
     let turn = then first (c.alerted.ensures received first.sizes) in
-    accepted_here old formed (called s) (with_state c.alerted.new.state received) c.losing.result []
+    accepted_here old formed (deliver c.args.bytes.now c.args.parities.now c.args.last_bits) (with_state c.alerted.new.state received) c.losing.result []
     (known_bytes bytes c.shared_slice_known-1.given) whole
-    (number (goal.at.returns c).Else-not-frame_formed chip whole true false (sym (c.receives.ensures old) ∙ c.if-not-receives.false)
+    (number (goal.at.returns c).Else-not-frame_formed chip (well_formed_lem (goal.at.returns c).Else-not-formed chip whole) true false (sym (c.receives.ensures old) ∙ c.if-not-receives.false)
     (sym (stands_by_word old c.modes_word.result (own_fields_formed old formed) c.modes_word.ensures) ∙ ap not (eq-eqb _ 0 c.if-modes_word-ne0.false)))
     (record {
       answered = c.losing.ensures ∙ ap (λ (n : ℕ). coded (answer.lost n)) lost;

@@ -1,9 +1,8 @@
 -- `event_host_read::host_read` meets its contract, by the refusals in their order, and by the register. Assumes nothing.
-use borrow.Author.Tests.{lt-ltb, not-false}
+use borrow.Author.Tests.{lt-ltb}
 use native.Mathlib.Omega.{arith}
 use mathlib.Core.Path.{◌≡◌, sym, ap, ◌∙◌}
 use mathlib.Core.Bool.{Bool, true}
-use mathlib.Core.Logic.{⊎_elim}
 use Rattle.machine.specs.Refusals.{host_read, refuse_if}
 use Rattle.machine.specs.Registers.{register_read}
 use Rattle.state.specs.View.{view, view_of, with_state}
@@ -15,19 +14,23 @@ use Rattle.state.proofs.MeetLaws.{refused, malformed, read_refusal}
 use Rattle.state_formed.proofs.ClauseLaws.{usual_formed}
 use Rattle.event_host_read.proofs.ReadLaws.{read_as, Passes, read_removes, read_leaves}
 use Rattle.event_host_read.proofs.host_read.Goals as goal
-use Rattle.event_host_read.proofs.host_read.Goals.{After-mapped-register, Joined-not-quick}
+use Rattle.event_host_read.proofs.host_read.Goals.{After-mapped-register, Joined-not-quick, then-not-quick+else-not-formed, else-not-quick+else-not-of_own_edition}
 
 well_formed_lem : (past : Joined-not-quick) (chip : Chip) → Whole ((clocks_numbers_state_registers_slots_eeprom past.args.clocks.now past.args.numbers.now past.args.state.now past.args.registers.now past.args.slots.now past.args.eeprom.now) chip) → chip_formed ((clocks_numbers_state_registers_slots_eeprom past.args.clocks.now past.args.numbers.now past.args.state.now past.args.registers.now past.args.slots.now past.args.eeprom.now) chip) ≡ true
 well_formed_lem past chip whole =
     let old = (clocks_numbers_state_registers_slots_eeprom past.args.clocks.now past.args.numbers.now past.args.state.now past.args.registers.now past.args.slots.now past.args.eeprom.now) chip in
-    ⊎_elim (λ x. sym (x.2.ensures old whole.sizes) ∙ not-false _ x.3.left)
-    (λ x. usual_formed old whole.sizes (sym (past.quick.ensures old) ∙ not-false _ x.0.left) (sym x.2.ensures ∙ not-false _ x.3.left))
-    past.if-not-quick.came
+    elim past.if-not-quick.branch [
+      then-not-quick+else-not-formed w ↦ sym (w.formed.ensures old whole.sizes) ∙ w.if-not-formed.false
+    | else-not-quick+else-not-of_own_edition w ↦
+        usual_formed old whole.sizes (sym (past.quick.ensures old) ∙ w.if-not-quick.false) (sym w.of_own_edition.ensures ∙ w.if-not-of_own_edition.false)
+    ]
 
-passes : (found : After-mapped-register) (chip : Chip) → Whole ((clocks_numbers_state_registers_slots_eeprom found.args.clocks.now found.args.numbers.now found.args.state.now found.args.registers.now found.args.slots.now found.args.eeprom.now) chip) → Passes ((clocks_numbers_state_registers_slots_eeprom found.args.clocks.now found.args.numbers.now found.args.state.now found.args.registers.now found.args.slots.now found.args.eeprom.now) chip) found.args.address found.mapped-register.result
+passes :
+    (found : After-mapped-register) (chip : Chip) →
+    let old = clocks_numbers_state_registers_slots_eeprom found.args.clocks.now found.args.numbers.now found.args.state.now found.args.registers.now found.args.slots.now found.args.eeprom.now chip in
+    chip_formed old ≡ true → Whole old → Passes old found.args.address found.mapped-register.result
 unfolding view_of
-passes found chip whole =
-    record { formed = well_formed_lem found chip whole; whole = whole; low = omega (arith, found.if-address-ge64.false); is = found.mapped-register.ensures }
+passes found chip formed whole = record { formed = formed; whole = whole; low = omega (arith, found.if-address-ge64.false); is = found.mapped-register.ensures }
 
 pub returns-then-not-formed : goal.returns-then-not-formed
 returns-then-not-formed c chip whole =
@@ -45,17 +48,17 @@ pub returns-then-register-eq3 : goal.returns-then-register-eq3
 unfolding view_of register_read
 returns-then-register-eq3 c chip whole =
     let old = (clocks_numbers_state_registers_slots_eeprom c.args.clocks.now c.args.numbers.now c.args.state.now c.args.registers.now c.args.slots.now c.args.eeprom.now) chip in
-    let passed = passes (goal.at.returns-then-register-eq3 c).After-mapped-register chip whole in
+    let passed = passes (goal.at.returns-then-register-eq3 c).After-mapped-register chip (well_formed_lem (goal.at.returns-then-register-eq3 c).Joined-not-quick chip whole) whole in
     read_leaves passed _ (λ e. omega (arith, e, c.if-register-eq3.true)) (read_as _ 0x03 _ (view old) c.if-register-eq3.true (c.primary_status.ensures old passed.formed))
 
 pub returns-then-register-eq2 : goal.returns-then-register-eq2
 unfolding view_of
 returns-then-register-eq2 c chip whole =
     let old = (clocks_numbers_state_registers_slots_eeprom c.args.clocks.now c.args.numbers.now c.args.state.now c.args.registers.now c.args.slots.now c.args.eeprom.now) chip in
-    read_removes (passes (goal.at.returns-then-register-eq2 c).After-mapped-register chip whole) (with_state c.fifo_read.new.state old) _ c.if-register-eq2.true (c.fifo_read.ensures.reads old) (c.fifo_read.ensures.turns old whole.sizes)
+    read_removes (passes (goal.at.returns-then-register-eq2 c).After-mapped-register chip (well_formed_lem (goal.at.returns-then-register-eq2 c).Joined-not-quick chip whole) whole) (with_state c.fifo_read.new.state old) _ c.if-register-eq2.true (c.fifo_read.ensures.reads old) (c.fifo_read.ensures.turns old whole.sizes)
 
 pub returns : goal.returns
 unfolding view_of
 returns c chip whole =
-    let passed = passes (goal.at.returns c).After-mapped-register chip whole in
+    let passed = passes (goal.at.returns c).After-mapped-register chip (well_formed_lem (goal.at.returns c).Joined-not-quick chip whole) whole in
     read_leaves passed _ c.if-register-eq2.false (c.read.ensures c.if-register-eq2.false c.if-register-eq3.false ((clocks_numbers_state_registers_slots_eeprom c.args.clocks.now c.args.numbers.now c.args.state.now c.args.registers.now c.args.slots.now c.args.eeprom.now) chip) passed.formed)

@@ -34,7 +34,7 @@ returns-then-image-ne512 c whole =
 pub returns-then-not-is_of-rc530 : goal.returns-then-not-is_of-rc530
 returns-then-not-is_of-rc530 c whole =
     let image = c.args.image.now in
-    refused (assembled c.args.clocks.now c.args.numbers.now c.args.state.now c.args.registers.now c.args.slots.now c.args.latch.now c.args.key.now c.args.eeprom.now) (start image) 21 (start_refusal (assembled c.args.clocks.now c.args.numbers.now c.args.state.now c.args.registers.now c.args.slots.now c.args.latch.now c.args.key.now c.args.eeprom.now) image true false (whole_image (goal.at.returns-then-not-is_of-rc530 c).After-is_of) (of_either_lem (goal.at.returns-then-not-is_of-rc530 c).After-is_of c.if-not-is_of-rc530.true) whole
+    refused (assembled c.args.clocks.now c.args.numbers.now c.args.state.now c.args.registers.now c.args.slots.now c.args.latch.now c.args.key.now c.args.eeprom.now) (start image) 21 (start_refusal (assembled c.args.clocks.now c.args.numbers.now c.args.state.now c.args.registers.now c.args.slots.now c.args.latch.now c.args.key.now c.args.eeprom.now) image true false (whole_image (goal.at.returns-then-not-is_of-rc530 c).After-is_of) (of_either_lem (goal.at.returns-then-not-is_of-rc530 c).After-is_of c.if-not-is_of-rc530.true)) whole
 
 pub returns : goal.returns
 returns c whole =

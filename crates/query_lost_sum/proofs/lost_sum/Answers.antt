@@ -1,7 +1,5 @@
 -- `query_lost_sum::lost_sum` meets its contract, by whether the chip is well formed. Assumes nothing.
-use borrow.Author.Tests.{not-false}
 use mathlib.Core.Bool.{Bool, true, cond}
-use mathlib.Core.Logic.{⊎_elim}
 use mathlib.Core.Path.{◌≡◌, sym, ap, ◌∙◌}
 use Rattle.state.specs.View.{view, view_of}
 use Rattle.state.specs.Formed.{chip_formed}
@@ -11,14 +9,16 @@ use Rattle.state.specs.Turns.{Sizes}
 use Rattle.state.specs.declared.Chip.{Chip}
 use Rattle.state_formed.proofs.ClauseLaws.{usual_formed}
 use Rattle.query_lost_sum.proofs.lost_sum.Goals as goal
-use Rattle.query_lost_sum.proofs.lost_sum.Goals.{Joined-not-quick}
+use Rattle.query_lost_sum.proofs.lost_sum.Goals.{Joined-not-quick, then-not-quick+else-not-formed, else-not-quick+else-not-of_own_edition}
 
 well_formed_lem : (past : Joined-not-quick) (chip : Chip) → Sizes ((clocks_numbers_state_eeprom past.args.clocks.now past.args.numbers.now past.args.state.now past.args.eeprom.now) chip) → chip_formed ((clocks_numbers_state_eeprom past.args.clocks.now past.args.numbers.now past.args.state.now past.args.eeprom.now) chip) ≡ true
 well_formed_lem past chip sizes =
     let old = (clocks_numbers_state_eeprom past.args.clocks.now past.args.numbers.now past.args.state.now past.args.eeprom.now) chip in
-    ⊎_elim (λ x. sym (x.1.ensures old sizes) ∙ not-false _ x.2.left)
-    (λ x. usual_formed old sizes (sym (past.quick.ensures old) ∙ not-false _ x.0.left) (sym x.1.ensures ∙ not-false _ x.2.left))
-    past.if-not-quick.came
+    elim past.if-not-quick.branch [
+      then-not-quick+else-not-formed w ↦ sym (w.formed.ensures old sizes) ∙ w.if-not-formed.false
+    | else-not-quick+else-not-of_own_edition w ↦
+        usual_formed old sizes (sym (past.quick.ensures old) ∙ w.if-not-quick.false) (sym w.of_own_edition.ensures ∙ w.if-not-of_own_edition.false)
+    ]
 
 -- The answer, by what was found.
 answer : (old : Chip) (t : Bool) → chip_formed old ≡ t → cond t (coded_sum (view old).lost_sum) 7 ≡ lost_sum_of old

@@ -56,7 +56,8 @@ pub returns-in-10 : goal.returns-in-10
 unfolding view_of register_read
 returns-in-10 c below eighth n02 n03 chip formed =
     let here = (clocks_numbers_state c.args.clocks.now c.args.numbers.now c.args.state.now) chip in
-    let (is, byte) = c.error_flag.ensures in
+    let is = c.error_flag.ensures.is in
+    let byte = c.error_flag.ensures.byte in
     read_as _ 0x0A _ (view here) c.in-10.is (is ∙ error_byte_lem _ (omega (arith, is, byte)) (byte_agrees here (own_fields_formed here formed) 7 (lit< tt)))
 
 pub returns-in-12 : goal.returns-in-12

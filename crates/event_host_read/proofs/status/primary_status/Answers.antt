@@ -17,19 +17,15 @@ use Rattle.event_host_read.proofs.status.primary_status.Goals as goal
 pub returns : goal.returns
 unfolding view_of hi_alert lo_alert
 returns c chip formed =
-    let call-flag2 = c.before in
-    let call-err = call-flag2.before in
-    let call-flag = call-err.before.before in
-    let call-irq = call-flag.before in
-    let call-modem-state = call-irq.before.before.before in
-    let a = call-modem-state.args in
+    let a = c.args in
     let bytes = a.state.now in
     let here = state_registers bytes a.registers.now chip in
     let fields = own_fields_formed here formed in
     let m = view here in
-    let modem-state : call-modem-state.modem_state.result ≡ 16 * modem_state m = call-modem-state.modem_state.ensures.is here in
-    let irq : call-flag.flag.result ≡ flag (irq_bit m) = call-flag.flag.ensures.is ∙ ap flag (call-irq.irq.ensures ∙ common_set (at bytes 4) (at bytes 6) (ltb-true _ _ (byte_agrees here fields 4 (lit< tt)))) in
-    let (is, byte) = call-err.err.ensures in
-    let err : call-flag2.flag-2.result ≡ flag (Err m) = call-flag2.flag-2.ensures.is ∙ ap flag (is ∙ ap (λ (n : ℕ). not (eqb n 0)) (error_byte_lem (at bytes 7) byte (byte_agrees here fields 7 (lit< tt)))) in
+    let modem-state : c.modem_state.result ≡ 16 * modem_state m = c.modem_state.ensures.is here in
+    let irq : c.flag.result ≡ flag (irq_bit m) = c.flag.ensures.is ∙ ap flag (c.irq.ensures ∙ common_set (at bytes 4) (at bytes 6) (ltb-true _ _ (byte_agrees here fields 4 (lit< tt)))) in
+    let is = c.err.ensures.is in
+    let byte = c.err.ensures.byte in
+    let err : c.flag-2.result ≡ flag (Err m) = c.flag-2.ensures.is ∙ ap flag (is ∙ ap (λ (n : ℕ). not (eqb n 0)) (error_byte_lem (at bytes 7) byte (byte_agrees here fields 7 (lit< tt)))) in
     let alerts : c.alerts_of.result ≡ 2 * flag (hi_alert m) + flag (lo_alert m) = c.alerts_of.ensures.is here in
     omega arith

@@ -1,7 +1,8 @@
 // The functions of the C interface (manual 13.2): the six events on a chip that the caller lends, the sum of lost bytes, the profile check, the choice for
 // a safe start, and packs of profiles. `entry_in_place_c` gives each to C by its name; here they are a library, which `journal_runs` stands on.
 //
-// An event lends the chip's arrays where they lie to the event on the arrays, and answers its number. Nothing is copied.
+// An event lends the chip's arrays where they lie to the event on the arrays, and answers its number. Nothing is copied. `whole` says for the proof what the
+// chip is by its types.
 
 #![tactic(auto)]
 
@@ -27,6 +28,7 @@ use state::Chip;
 pub fn mfrc531_start(chip: &mut Chip, image: &[u8]) -> u32
     ensures { Meets chip.old (start image.now) chip.new result [] }
 {
+    entry_walk::whole(chip);
     event_image_start::start(
         &mut chip.clocks,
         &mut chip.numbers,
@@ -44,6 +46,7 @@ pub fn mfrc531_start(chip: &mut Chip, image: &[u8]) -> u32
 pub fn mfrc531_read(chip: &mut Chip, address: u8) -> u32
     ensures { Meets chip.old (host_read address) chip.new result [] }
 {
+    entry_walk::whole(chip);
     event_host_read::host_read(
         &chip.clocks,
         &chip.numbers,
@@ -59,6 +62,7 @@ pub fn mfrc531_read(chip: &mut Chip, address: u8) -> u32
 pub fn mfrc531_write(chip: &mut Chip, address: u8, v: u8) -> u32
     ensures { Meets chip.old (host_write address v) chip.new result [] }
 {
+    entry_walk::whole(chip);
     event_host_write::host_write(
         &mut chip.clocks,
         &mut chip.numbers,
@@ -77,6 +81,7 @@ pub fn mfrc531_write(chip: &mut Chip, address: u8, v: u8) -> u32
 pub fn mfrc531_advance(chip: &mut Chip, clocks: u32) -> u32
     ensures { Meets chip.old (advance clocks) chip.new result [] }
 {
+    entry_walk::whole(chip);
     event_clock_advance::advance(
         &mut chip.clocks,
         &mut chip.numbers,
@@ -95,6 +100,7 @@ pub fn mfrc531_take(chip: &mut Chip, buffer: &mut [u8]) -> u32
     ensures { let call = take_frame buffer.old in
         Meets chip.old call chip.new result buffer.new }
 {
+    entry_walk::whole(chip);
     event_frame_take::take(
         &mut chip.clocks,
         &chip.numbers,
@@ -107,15 +113,11 @@ pub fn mfrc531_take(chip: &mut Chip, buffer: &mut [u8]) -> u32
 }
 
 // A delivery of a frame that the chip receives.
-pub fn mfrc531_deliver(
-    chip: &mut Chip,
-    bytes: &[u8],
-    parities: &[u8],
-    last_bits: u8,
-) -> u32
+pub fn mfrc531_deliver(chip: &mut Chip, bytes: &[u8], parities: &[u8], last_bits: u8) -> u32
     ensures { let call = deliver bytes.now parities.now last_bits in
         Meets chip.old call chip.new result [] }
 {
+    entry_walk::whole(chip);
     event_frame_deliver::deliver(
         &mut chip.clocks,
         &mut chip.numbers,
@@ -133,6 +135,7 @@ pub fn mfrc531_deliver(
 pub fn mfrc531_lost_sum(chip: &Chip) -> u32
     ensures { result ≡ lost_sum_of chip.now }
 {
+    entry_walk::whole(chip);
     query_lost_sum::lost_sum(&chip.clocks, &chip.numbers, &chip.state, &chip.eeprom)
 }
 

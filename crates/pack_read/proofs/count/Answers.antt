@@ -2,7 +2,7 @@
 use borrow.Author.Rules.{rules}
 use borrow.Author.Tests.{le-leb, lt-leb, eq-eqb, ne_eqb}
 use mathlib.Core.Path.{sym}
-use Prim.Native.Nat.{◌-◌, ◌/◌, ◌≤◌}
+use Prim.Native.Nat.{◌-◌, ◌/◌, ◌<◌, ◌≤◌}
 use lib.ListN.{length}
 use native.Mathlib.Omega.{arith}
 use Rattle.pack.specs.Read.{count_in}
@@ -14,7 +14,9 @@ returns-then-pack-lt12 c = sym (count_short c.args.pack.now (search rules))
 
 pub returns-then-number-gt-MOST : goal.returns-then-number-gt-MOST
 unfolding count_in
-returns-then-number-gt-MOST c = sym (simp (lt-leb _ 256 c.if-number-gt-MOST.true))
+returns-then-number-gt-MOST c =
+    let many : 256 < (length c.args.pack.now - 12) / 52 = omega arith in
+    sym (simp (lt-leb _ _ many))
 
 pub returns-then-pack-number : goal.returns-then-pack-number
 unfolding count_in

@@ -52,7 +52,11 @@ pub fn start(rt: &impl Print, chip: Chip, image: &[u8], step: &[u8]) -> Chip
 pub fn write(rt: &impl Print, chip: Chip, address: u8, v: u8, step: &[u8]) -> Chip
     ensures { LeadsBy (host_write 0x07 0x3F ∷ host_write address v ∷ []) chip result }
 {
-    shown(rt, entry_by_value::host_write(cleared(chip), address, v), step)
+    shown(
+        rt,
+        entry_by_value::host_write(cleared(chip), address, v),
+        step,
+    )
 }
 
 pub fn read(rt: &impl Print, chip: Chip, address: u8, step: &[u8]) -> Chip
@@ -133,7 +137,14 @@ pub fn take_short(rt: &impl Print, chip: Chip, step: &[u8]) -> Chip
     shown(rt, entry_by_value::take(cleared(chip), &mut buffer), step)
 }
 
-pub fn deliver(rt: &impl Print, chip: Chip, bytes: &[u8], parities: &[u8], last_bits: u8, step: &[u8]) -> Chip
+pub fn deliver(
+    rt: &impl Print,
+    chip: Chip,
+    bytes: &[u8],
+    parities: &[u8],
+    last_bits: u8,
+    step: &[u8],
+) -> Chip
     ensures { let delivery = refusals_deliver bytes.now parities.now last_bits in
         LeadsBy (host_write 0x07 0x3F ∷ delivery ∷ []) chip result }
 {

@@ -77,17 +77,12 @@ fn fed(out: Outcome, bytes: &[u8]) -> Outcome
 {
     let mut chip = out.chip;
     let mut answer = out.answer;
-    let mut i: usize = 0;
-    while i < bytes.len() {
+    for i in 0..bytes.len() {
         let step = entry_by_value::host_write(chip, FIFO_DATA, bytes[i]);
         chip = step.chip;
         answer = step.answer;
-        i += 1;
     }
-    Outcome {
-        chip: chip,
-        answer: answer,
-    }
+    Outcome { chip, answer }
 }
 
 pub fn feed(rt: &impl Print, chip: Chip, bytes: &[u8], step: &[u8]) -> Chip

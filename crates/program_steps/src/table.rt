@@ -25,10 +25,8 @@ fn register(rt: &impl Print, chip: Chip, address: u8) {
 // The registers that the table has. None of them is FIFOData, so that reading them changes nothing.
 fn registers(rt: &impl Print, chip: Chip) {
     let addresses = [0x01u8, 0x03, 0x04, 0x05, 0x07, 0x0A, 0x0C, 0x0D, 0x0E];
-    let mut i: usize = 0;
-    while i < 9 {
-        register(rt, chip, addresses[i]);
-        i += 1;
+    for address in addresses {
+        register(rt, chip, address);
     }
 }
 
@@ -69,10 +67,8 @@ pub fn bytes(rt: &impl Print, words: &[u8], values: &[u8])
     ensures { result ≡ tt }
 {
     text(rt, words);
-    let mut i: usize = 0;
-    while i < values.len() {
-        byte(rt, values[i]);
-        i += 1;
+    for value in values {
+        byte(rt, *value);
     }
     text(rt, b"\n");
 }

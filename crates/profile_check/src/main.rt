@@ -7,7 +7,7 @@
 
 ghost use Rattle.std.specs.Prelude.{◌≤◌, length, OnOk};
 ghost use Rattle.std.specs.Io.KnownBytes.{Appends};
-ghost use Rattle.profile_check.specs.Input.{count_of, IsRead, verdict_line};
+ghost use Rattle.profile_check.specs.Input.{count_of, IsRead, verdict_line, Judges};
 
 use edition::Edition;
 use std::io;
@@ -45,6 +45,26 @@ fn answer<W: Write>(output: &mut W, profile: &[u8]) -> io::Result<()>
     output.write_all(&line[..end])
 }
 
+#[derive(Drop)]
+enum Failure {
+    Input(io::Error),
+    Output(io::Error),
+}
+
+// Reads a profile, and writes the line for it.
+fn judge<R: Read, W: Write>(input: &mut R, output: &mut W) -> Result<(), Failure>
+    ensures { Judges (R.remaining input.old) (W.contents output.old) (W.contents output.new) result }
+{
+    let mut buffer = [0u8; 33];
+    match read_input(input, &mut buffer) {
+        Input::Failed(error) => Err(Failure::Input(error)),
+        Input::Bytes(count) => match answer(output, &buffer[..count]) {
+            Ok(()) => Ok(()),
+            Err(error) => Err(Failure::Output(error)),
+        },
+    }
+}
+
 // Names what failed and why on standard error, without the number that the system has for it.
 fn fail(rt: &(impl Eprint + AllocGlobal), what: &str, error: io::Error) -> io::Result<()> {
     let whole = format!(in rt.alloc(); "{error}")?;
@@ -55,13 +75,9 @@ fn fail(rt: &(impl Eprint + AllocGlobal), what: &str, error: io::Error) -> io::R
 }
 
 fn main(rt: HostRuntime) -> io::Result<()> {
-    let mut buffer = [0u8; 33];
-    let count = match read_input(&mut rt.reader(), &mut buffer) {
-        Input::Bytes(count) => count,
-        Input::Failed(error) => return fail(&rt, "standard input", error),
-    };
-    match answer(&mut io::writer(&rt), &buffer[..count]) {
+    match judge(&mut rt.reader(), &mut io::writer(&rt)) {
         Ok(()) => Ok(()),
-        Err(error) => fail(&rt, "standard output", error),
+        Err(Failure::Input(error)) => fail(&rt, "standard input", error),
+        Err(Failure::Output(error)) => fail(&rt, "standard output", error),
     }
 }

@@ -1,6 +1,6 @@
 -- The line for a verdict (manual 11.3), with its newline: `pass`; `refuse 9`; `refuse 10 at 22 bit 6`; and for 11 to 13 as `refuse 13 at 29`.
 -- Assumes nothing.
-use Rattle.std.specs.Prelude.{ℕ, ◌≤◌, ◌≡◌, List, ◌++◌, cond, ltb, length, drop}
+use Rattle.std.specs.Prelude.{ℕ, ◌≡◌, List, ◌++◌, cond, ltb, length, drop}
 use Rattle.bits.specs.Text.{ascii, decimal_byte, hex_byte}
 use Rattle.profile.specs.Answer.{Answer, pass, refuse, refuse_at, refuse_bit}
 

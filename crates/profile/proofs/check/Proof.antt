@@ -147,7 +147,6 @@ returns-4 c =
     answer
     ∙ refused turn (refusal_answer refusal) (search rules) (by_value turn (search rules) ∙ sym c.value_verdict-verdict.ensures ∙ answer) (refusal_fails refusal)
 
-
 pub check_spec : {M : Type 1} → statement M
 check_spec =
     tie.close

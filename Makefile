@@ -1,6 +1,6 @@
 # What people type: `make run` shows the bench at work, `make test` passes every test and ends with the gate's own line.
 #
-# What is built for people goes to build/; target/ is the toolchain's own, and rt ci begins by removing it.
+# What is built for people goes to build/; what rt keeps of a crate goes to out/ in its folder.
 PREFIX ?= /usr/local
 DESTDIR ?=
 CFLAGS ?= -O2 -Wall -Wextra -pedantic -std=c11
@@ -9,25 +9,26 @@ SOAK_CALLS ?= 50000000
 BUILD := $(abspath build)
 # The library, and the crate of the C interface, by whose name rt calls it.
 LIBRARY := $(BUILD)/libmfrc531.a
-INTERFACE := entry_in_place
+INTERFACE := entry_in_place_c
 export MFRC531_LIB_DIR := $(BUILD)
-# Crates that rt proves, or edits that it tries, at a time. Four on two processors: all crates from nothing took 223 s, and 238 s with two.
+# Crates that tools/prove has proved at a time.
 export RT_JOBS ?= 4
 
 # What the archives are made of: every file of a crate that is proved.
-SOURCES := crates.txt $(shell find crates -path '*/must-fail' -prune -o -type f -print)
+SOURCES := crates.txt $(shell find crates \( -name must-fail -o -name out \) -prune -o -type f -print)
 
 .PHONY: help needed run test proved check library tool install dist bench soak clean
 
 help:
 	@echo 'make run      prove and build the library, the tool and a first firmware, and show them at work'
-	@echo 'make test     every test; its last line is the verdict of rt ci'
+	@echo 'make test     rt ci and every test; its last line is the verdict of rt ci'
 	@echo 'make library  build/libmfrc531.a, for include/mfrc531.h'
 	@echo 'make tool     build/mfrc531: profiles as people post them, and a chip to type at'
 	@echo 'make install  library, header, pkg-config file, CMake package and programs under PREFIX (default /usr/local), as they are built'
 	@echo 'make dist     an archive of all that, with the manual, for machines without the Rattle kit'
 	@echo 'make bench    the library beside a plain Rust chip, times and instructions, into docs/PERFORMANCE.md'
 	@echo 'make soak     the differential test for SOAK_CALLS calls (default 50,000,000)'
+	@echo 'make tests    the tests without rt ci'
 	@echo 'make check    prove what has changed'
 	@echo 'make clean    remove what was built'
 
@@ -40,19 +41,16 @@ needed:
 # Proved, compiled and linked by the toolchain.
 $(BUILD)/profile_check: $(SOURCES)
 	@tools/prove --if-changed profile_check
-	@cp target/bin/profile_check $@
+	@cp crates/profile_check/out/profile_check $@
 
-# tools/prove has crates proved side by side, rt staticlib one after the other: so the first goes before. Neither proves again what is up to date.
 $(LIBRARY): $(SOURCES)
 	@tools/prove --if-changed $(INTERFACE)
-	@rt staticlib $(INTERFACE) > $(BUILD)/library.log 2>&1 || { cat $(BUILD)/library.log; exit 1; }
-	@cp target/staticlib/lib$(INTERFACE).a $@
+	@cp crates/$(INTERFACE)/out/lib$(INTERFACE).a $@
 
 # Archives for tests alone: libcrc_exports.a has the checksum over slices.
 $(BUILD)/lib%.a: $(SOURCES)
 	@tools/prove --if-changed $*
-	@rt staticlib $* > $(BUILD)/$*.log 2>&1 || { cat $(BUILD)/$*.log; exit 1; }
-	@cp target/staticlib/lib$*.a $@
+	@cp crates/$*/out/lib$*.a $@
 
 library: needed $(LIBRARY)
 
@@ -78,19 +76,25 @@ run: needed
 	@echo
 	@echo 'A chip to type at: build/mfrc531 shell'
 
-# All that the tests link, proved side by side before any of it is built.
+# All that the tests link or check again, proved side by side before any of it is built.
 proved: needed
-	@tools/prove $(INTERFACE) profile_check crc_exports journal_runs
+	@tools/prove
 
 # Each by itself, two at a time; a test's lines are shown together when it has ended.
 TESTS := differential firmware contracts_bound tool impostors dist hal first_run instructions profile_check manual crate_map
 TRIED := $(addprefix try_,$(TESTS))
-.PHONY: $(TRIED)
+.PHONY: $(TRIED) tests
 
-test: proved
+# The gate: rt ci first, over the checkout as it stands, then the tests; and rt ci's verdict once more.
+test: needed
+	@tools/ci
+	@$(MAKE) --no-print-directory tests
+	@grep '^rt: ok;' $(BUILD)/ci.log
+	@tail -n 1 $(BUILD)/ci.log
+
+tests: proved
 	@$(MAKE) --no-print-directory -s $(BUILD)/lock $(BUILD)/profile_check $(BUILD)/mfrc531 $(BUILD)/libcrc_exports.a
 	@$(MAKE) --no-print-directory -j2 --output-sync=target $(TRIED)
-	rt ci
 
 try_crate_map:
 	tools/crate_map --check
@@ -155,9 +159,9 @@ dist: $(LIBRARY) $(BUILD)/mfrc531 $(BUILD)/profile_check
 	@tools/dist $(BUILD) $(VERSION)
 
 check:
-	rt check
+	rt all check --jobs $(RT_JOBS)
 
 clean:
-	rm -rf target build bindings/rust/target tools/mfrc531/target tests/differential/target
+	rm -rf build crates/*/out bindings/rust/target tools/mfrc531/target tests/differential/target
 
 FORCE:

@@ -1,5 +1,5 @@
 // The six events by value: the chip is passed in, and handed back with the answer. Each copies the arrays into locals and lends those to the event on the
-// arrays. So does the call for the sum of lost bytes, which hands no chip back, since it changes none.
+// arrays. So does the call for the sum of lost bytes, which hands no chip back, since it changes none. `whole` says for the proof what the chip is by its types.
 
 #![tactic(auto)]
 
@@ -11,7 +11,7 @@ ghost use Rattle.state.specs.LostSum.{lost_sum_of};
 use state::Chip;
 
 // What an event by value gives back: the next chip, and the number answered.
-#[derive(Drop)]
+#[derive(Clone, Copy)]
 pub struct Outcome {
     pub chip: Chip,
     pub answer: u32,
@@ -21,6 +21,7 @@ pub struct Outcome {
 pub fn start(chip: Chip, image: &[u8]) -> Outcome
     ensures { Meets chip (refusals_start image.now) result.chip result.answer [] }
 {
+    entry_walk::whole(&chip);
     let mut clocks = chip.clocks;
     let mut numbers = chip.numbers;
     let mut state = chip.state;
@@ -60,6 +61,7 @@ pub fn start(chip: Chip, image: &[u8]) -> Outcome
 pub fn host_read(chip: Chip, address: u8) -> Outcome
     ensures { Meets chip (refusals_host_read address) result.chip result.answer [] }
 {
+    entry_walk::whole(&chip);
     let clocks = chip.clocks;
     let numbers = chip.numbers;
     let mut state = chip.state;
@@ -91,6 +93,7 @@ pub fn host_read(chip: Chip, address: u8) -> Outcome
 pub fn host_write(chip: Chip, address: u8, v: u8) -> Outcome
     ensures { Meets chip (refusals_host_write address v) result.chip result.answer [] }
 {
+    entry_walk::whole(&chip);
     let mut clocks = chip.clocks;
     let mut numbers = chip.numbers;
     let mut state = chip.state;
@@ -131,6 +134,7 @@ pub fn host_write(chip: Chip, address: u8, v: u8) -> Outcome
 pub fn advance(chip: Chip, by: u32) -> Outcome
     ensures { Meets chip (refusals_advance by) result.chip result.answer [] }
 {
+    entry_walk::whole(&chip);
     let mut clocks = chip.clocks;
     let mut numbers = chip.numbers;
     let mut state = chip.state;
@@ -170,6 +174,7 @@ pub fn advance(chip: Chip, by: u32) -> Outcome
 pub fn take(chip: Chip, buffer: &mut [u8]) -> Outcome
     ensures { Meets chip (take_frame buffer.old) result.chip result.answer buffer.new }
 {
+    entry_walk::whole(&chip);
     let mut clocks = chip.clocks;
     let numbers = chip.numbers;
     let mut state = chip.state;
@@ -208,6 +213,7 @@ pub fn deliver(chip: Chip, bytes: &[u8], parities: &[u8], last_bits: u8) -> Outc
     ensures { let call = refusals_deliver bytes.now parities.now last_bits in
         Meets chip call result.chip result.answer [] }
 {
+    entry_walk::whole(&chip);
     let mut clocks = chip.clocks;
     let mut numbers = chip.numbers;
     let mut state = chip.state;
@@ -247,6 +253,7 @@ pub fn deliver(chip: Chip, bytes: &[u8], parities: &[u8], last_bits: u8) -> Outc
 pub fn lost_sum(chip: Chip) -> u32
     ensures { result ≡ lost_sum_of chip }
 {
+    entry_walk::whole(&chip);
     let clocks = chip.clocks;
     let numbers = chip.numbers;
     let state = chip.state;

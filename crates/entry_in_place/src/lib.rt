@@ -1,7 +1,8 @@
-// The C interface (include/mfrc531.h; manual 13.2): the six events on a chip that the caller lends, the sum of lost bytes, the profile check, the choice for
-// a safe start, and packs of profiles.
+// The functions of the C interface (manual 13.2): the six events on a chip that the caller lends, the sum of lost bytes, the profile check, the choice for
+// a safe start, and packs of profiles. `entry_in_place_c` gives each to C by its name; here they are a library, which `journal_runs` stands on.
 //
-// An event lends the chip's arrays where they lie to the event on the arrays, and answers its number. Nothing is copied.
+// An event lends the chip's arrays where they lie to the event on the arrays, and answers its number. Nothing is copied. `whole` says for the proof what the
+// chip is by its types.
 
 #![tactic(auto)]
 
@@ -24,10 +25,10 @@ use profile_number::verdict_number;
 use state::Chip;
 
 // A start from an EEPROM image, whatever the chip was.
-#[unsafe(no_mangle)]
-pub extern "C" fn mfrc531_start(chip: &mut Chip, image: &[u8]) -> u32
+pub fn mfrc531_start(chip: &mut Chip, image: &[u8]) -> u32
     ensures { Meets chip.old (start image.now) chip.new result [] }
 {
+    entry_walk::whole(chip);
     event_image_start::start(
         &mut chip.clocks,
         &mut chip.numbers,
@@ -42,10 +43,10 @@ pub extern "C" fn mfrc531_start(chip: &mut Chip, image: &[u8]) -> u32
 }
 
 // A host read of an address.
-#[unsafe(no_mangle)]
-pub extern "C" fn mfrc531_read(chip: &mut Chip, address: u8) -> u32
+pub fn mfrc531_read(chip: &mut Chip, address: u8) -> u32
     ensures { Meets chip.old (host_read address) chip.new result [] }
 {
+    entry_walk::whole(chip);
     event_host_read::host_read(
         &chip.clocks,
         &chip.numbers,
@@ -58,10 +59,10 @@ pub extern "C" fn mfrc531_read(chip: &mut Chip, address: u8) -> u32
 }
 
 // A host write of a byte to an address.
-#[unsafe(no_mangle)]
-pub extern "C" fn mfrc531_write(chip: &mut Chip, address: u8, v: u8) -> u32
+pub fn mfrc531_write(chip: &mut Chip, address: u8, v: u8) -> u32
     ensures { Meets chip.old (host_write address v) chip.new result [] }
 {
+    entry_walk::whole(chip);
     event_host_write::host_write(
         &mut chip.clocks,
         &mut chip.numbers,
@@ -77,10 +78,10 @@ pub extern "C" fn mfrc531_write(chip: &mut Chip, address: u8, v: u8) -> u32
 }
 
 // An advance by clocks.
-#[unsafe(no_mangle)]
-pub extern "C" fn mfrc531_advance(chip: &mut Chip, clocks: u32) -> u32
+pub fn mfrc531_advance(chip: &mut Chip, clocks: u32) -> u32
     ensures { Meets chip.old (advance clocks) chip.new result [] }
 {
+    entry_walk::whole(chip);
     event_clock_advance::advance(
         &mut chip.clocks,
         &mut chip.numbers,
@@ -95,11 +96,11 @@ pub extern "C" fn mfrc531_advance(chip: &mut Chip, clocks: u32) -> u32
 }
 
 // A take of the frame that the chip sends, into a buffer.
-#[unsafe(no_mangle)]
-pub extern "C" fn mfrc531_take(chip: &mut Chip, buffer: &mut [u8]) -> u32
+pub fn mfrc531_take(chip: &mut Chip, buffer: &mut [u8]) -> u32
     ensures { let call = take_frame buffer.old in
         Meets chip.old call chip.new result buffer.new }
 {
+    entry_walk::whole(chip);
     event_frame_take::take(
         &mut chip.clocks,
         &chip.numbers,
@@ -112,16 +113,11 @@ pub extern "C" fn mfrc531_take(chip: &mut Chip, buffer: &mut [u8]) -> u32
 }
 
 // A delivery of a frame that the chip receives.
-#[unsafe(no_mangle)]
-pub extern "C" fn mfrc531_deliver(
-    chip: &mut Chip,
-    bytes: &[u8],
-    parities: &[u8],
-    last_bits: u8,
-) -> u32
+pub fn mfrc531_deliver(chip: &mut Chip, bytes: &[u8], parities: &[u8], last_bits: u8) -> u32
     ensures { let call = deliver bytes.now parities.now last_bits in
         Meets chip.old call chip.new result [] }
 {
+    entry_walk::whole(chip);
     event_frame_deliver::deliver(
         &mut chip.clocks,
         &mut chip.numbers,
@@ -136,16 +132,15 @@ pub extern "C" fn mfrc531_deliver(
 }
 
 // The sum of lost bytes, of a chip that is lent to read.
-#[unsafe(no_mangle)]
-pub extern "C" fn mfrc531_lost_sum(chip: &Chip) -> u32
+pub fn mfrc531_lost_sum(chip: &Chip) -> u32
     ensures { result ≡ lost_sum_of chip.now }
 {
+    entry_walk::whole(chip);
     query_lost_sum::lost_sum(&chip.clocks, &chip.numbers, &chip.state, &chip.eeprom)
 }
 
 // The check of a start-up profile, for the edition that a number stands for.
-#[unsafe(no_mangle)]
-pub extern "C" fn mfrc531_check_profile(edition: u8, profile: &[u8]) -> u32
+pub fn mfrc531_check_profile(edition: u8, profile: &[u8]) -> u32
     ensures { result ≡ profile_number (judged_for edition profile.now) }
 {
     if edition == MFRC531 {
@@ -161,8 +156,7 @@ pub extern "C" fn mfrc531_check_profile(edition: u8, profile: &[u8]) -> u32
 }
 
 // The choice for a safe start, from two images.
-#[unsafe(no_mangle)]
-pub extern "C" fn mfrc531_choose(user: &[u8], rescue: &[u8]) -> u32
+pub fn mfrc531_choose(user: &[u8], rescue: &[u8]) -> u32
     ensures { result ≡ choice_number (chosen user.now rescue.now) }
 {
     match profile_choice::choose(user, rescue) {
@@ -174,8 +168,7 @@ pub extern "C" fn mfrc531_choose(user: &[u8], rescue: &[u8]) -> u32
 }
 
 // A pack written from names and bodies into a buffer.
-#[unsafe(no_mangle)]
-pub extern "C" fn mfrc531_pack_write(names: &[u8], bodies: &[u8], buffer: &mut [u8]) -> u32
+pub fn mfrc531_pack_write(names: &[u8], bodies: &[u8], buffer: &mut [u8]) -> u32
     ensures { let outcome = writing names.now bodies.now (length buffer.old) in
         (result ≡ numbered length outcome) × (buffer.new ≡ filled outcome buffer.old) }
 {
@@ -183,24 +176,21 @@ pub extern "C" fn mfrc531_pack_write(names: &[u8], bodies: &[u8], buffer: &mut [
 }
 
 // The number of profiles of a pack.
-#[unsafe(no_mangle)]
-pub extern "C" fn mfrc531_pack_read(pack: &[u8]) -> u32
+pub fn mfrc531_pack_read(pack: &[u8]) -> u32
     ensures { result ≡ numbered length (reading pack.now) }
 {
     pack_read::read(pack)
 }
 
 // The offset of the body that has a name in a pack.
-#[unsafe(no_mangle)]
-pub extern "C" fn mfrc531_pack_find(pack: &[u8], name: &[u8]) -> u32
+pub fn mfrc531_pack_find(pack: &[u8], name: &[u8]) -> u32
     ensures { result ≡ numbered offset_of (finding pack.now name.now) }
 {
     pack_find::find(pack, name)
 }
 
 // The same in bytes that have been read as a pack, which are not judged again.
-#[unsafe(no_mangle)]
-pub extern "C" fn mfrc531_pack_find_checked(pack: &[u8], name: &[u8]) -> u32
+pub fn mfrc531_pack_find_checked(pack: &[u8], name: &[u8]) -> u32
     ensures { result ≡ numbered offset_of (halved pack.now name.now) }
 {
     pack_find::find_checked(pack, name)

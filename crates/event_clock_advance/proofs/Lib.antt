@@ -3,3 +3,4 @@ pub mod BatchLaws
 pub mod ClockLaws
 pub mod ModeLaws
 pub mod StandLaws
+pub mod Reaching

@@ -1,0 +1,67 @@
+-- A turn of the loop over the ends of programmings: what is known of the chip then, and what more clocks make of it.
+-- Assumes nothing.
+use Rattle.std.proofs.Common.{◌≡◌, ℕ, ◌+◌, ◌-◌, ◌≤◌, true, false, take, sym, ap, subst, ◌∙◌, arith}
+use Rattle.machine.specs.State.{WriteE2, programming}
+use Rattle.machine.specs.Power.{stands_still}
+use Rattle.machine.specs.WellFormedness.{Formed}
+use Rattle.machine.specs.Events.{clocks}
+use Rattle.machine.proofs.WellFormed.Kept.{clocks_formed}
+use Rattle.machine.proofs.ManyClocks.Pieces.{in_parts}
+use Rattle.state.specs.View.{batch_start, core, view, view_of}
+use Rattle.state.specs.Formed.{fields_formed}
+use Rattle.state.specs.Turns.{Sizes, Turned}
+use Rattle.state.specs.declared.Chip.{Chip}
+use Rattle.state.proofs.TurnLaws.{then, becomes}
+use Rattle.event_clock_advance.proofs.BatchLaws.{programs_here, is_programming}
+
+-- A chip in which no power mode has hold, so that clocks reach timer and programming.
+pub record Runs (c : Chip) : Type 0 where
+  pub sizes : Sizes c
+  pub fields : fields_formed c ≡ true
+  pub well : Formed (view c)
+  pub without : stands_still (view c) ≡ false
+
+pub entered : {c : Chip} → Sizes c → fields_formed c ≡ true → Formed (view c) → stands_still (view c) ≡ false → Runs c
+entered sizes formed well without = record { sizes = sizes; fields = formed; well = well; without = without }
+
+-- Of so many clocks the chip has had all but the rest; the loop knows how many the programming has left, and clocks reach it.
+pub record Turn (by rest left : ℕ) (old x : Chip) : Type 0 where
+  pub within : rest ≤ by
+  pub known : left ≡ (core x).left
+  pub so_far : Turned (clocks (by - rest)) old x
+  pub runs : stands_still (view x) ≡ false
+
+module _ {by rest left : ℕ} {old x : Chip} (entry : Runs old) (turn : Turn by rest left old x) where
+  pub runs_here : Runs x
+  runs_here =
+      record {
+        sizes = turn.so_far.sizes;
+        fields = turn.so_far.fields entry.fields;
+        well = subst Formed (sym turn.so_far.machine) (clocks_formed (by - rest) (view old) entry.well);
+        without = turn.runs;
+      }
+
+  -- so many more clocks
+  pub further : {z : Chip} (n : ℕ) → n ≤ rest → Turned (clocks n) x z → Turned (clocks (by - (rest - n))) old z
+  further n less turned =
+      let m = view old in
+      let sum : by - rest + n ≡ by - (rest - n) = omega (arith, turn.within) in
+      becomes (clocks (by - (rest - n))) (then turn.so_far turned) (sym (in_parts (by - rest) n m) ∙ ap (λ (k : ℕ). clocks k m) sum)
+
+  -- all clocks but none are had
+  pub all : {z : Chip} → Turned (clocks (by - (rest - rest))) old z → Turned (clocks by) old z
+  all turned =
+      let whole : by - (rest - rest) ≡ by = omega arith in
+      becomes (clocks by) turned (ap (λ (n : ℕ). clocks n (view old)) whole)
+
+  -- the programming that runs, where one does
+  module _ (some : left ≡ 0 → ⊥) where
+    left_here : (core x).left ≡ 0 → ⊥
+    left_here none = some (turn.known ∙ none)
+
+    pub is_run : let k = core x in (view x).command ≡ WriteE2 (programming (batch_start k.next k.latched) (take k.latched x.latch) left)
+    unfolding view_of
+    is_run =
+        let k = core x in
+        is_programming k x.latch (programs_here x runs_here.fields left_here).0 left_here
+        ∙ ap (λ (n : ℕ). WriteE2 (programming (batch_start k.next k.latched) (take k.latched x.latch) n)) (sym turn.known)

@@ -1,3 +1,4 @@
+pub mod Promised
 pub mod Kept
 pub mod SingleClock
 pub mod Editions

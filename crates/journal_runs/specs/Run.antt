@@ -90,7 +90,9 @@ pub record Kept (image : List ℕ) (steps : List Step) (c : Chip) : Type 0 where
   pub conserved : Conserved image (record { machine = view c; journal = (run image (calls_of steps)).journal })
   pub next_call : NextCall (record { machine = view c; journal = (run image (calls_of steps)).journal })
 
-pub record ProgramDemand3 : Type 0 where
+pub record ProgramDemand3 : Type 2 where
+  -- what a step rests on is what its function's contract says, whole
+  pub promised : contracts.AllPromised
   -- from any chip, a start from an image that succeeds, then any run
   pub holds :
       (image : List ℕ) (old fresh c : Chip) (steps : List Step) →

@@ -1,17 +1,17 @@
 -- Bytes of a pack's length are one where their trailer, their offsets and the order of their names are right.
 -- Assumes nothing.
-use mathlib.Core.Path.{◌≡◌, refl, sym, ap, ◌∙◌, subst}
+use mathlib.Core.Path.{◌≡◌, refl, sym, ap, ◌∙◌}
 use mathlib.Core.Bool.{Bool, true, false, ◌&&◌, and-true, and-false, false≢true}
 use mathlib.Core.List.{List, ◌∷◌, ◌++◌}
-use Prim.Native.Nat.{ℕ, zero, suc, ◌+◌, ◌-◌, ◌*◌, ◌/◌, ◌<◌, ◌≤◌}
+use Prim.Native.Nat.{ℕ, zero, suc, ◌+◌, ◌*◌, ◌≤◌}
 use native.Mathlib.Omega.{arith}
-use lib.ListN.{length, take, drop, take-append-drop, length-append, length-drop}
+use lib.ListN.{length, take, drop, take-append-drop, length-drop}
 use lib.Seq.{drop-drop, take-add, take-take, take_all, drop_at, length-take-le}
 use Rattle.bits.proofs.Append.{append_split}
 use Rattle.bits.proofs.Both.{both}
 use Rattle.pack_order.specs.Order.{same}
 use Rattle.pack_order.proofs.Laws.{same_true, true_same, same_false, false_differ}
-use Rattle.pack.specs.Layout.{Profile, bodies, index, trailer, packed}
+use Rattle.pack.specs.Layout.{index, trailer, packed}
 use Rattle.pack.specs.Write.{profiles_of, ascending}
 use Rattle.pack.specs.Read.{count_in, profiles_in, is_pack}
 use Rattle.pack.proofs.Places.{bodies_of, length_profiles, length_index}

@@ -12,6 +12,9 @@ ghost use Rattle.pack_read.specs.Offsets.{offsets_from};
 use pack_fields::{ascends, four_bytes};
 use pack_order::same;
 
+// A pack has so many profiles at most.
+const MOST: usize = 256;
+
 // How many profiles a pack of this length has; 0 where no pack has it.
 pub fn count(pack: &[u8]) -> usize
     ensures { result ≡ count_in pack.now }
@@ -20,7 +23,7 @@ pub fn count(pack: &[u8]) -> usize
         return 0;
     }
     let number = (pack.len() - 12) / 52;
-    if number > 256 {
+    if number > MOST {
         return 0;
     }
     if pack.len() != 52 * number + 12 {

@@ -1,30 +1,26 @@
 -- Pieces that are stored into a buffer one behind the other.
 -- Assumes nothing.
 use mathlib.Core.Path.{◌≡◌, sym, ap, ◌∙◌, subst}
-use mathlib.Core.List.{List, [], ◌∷◌, ◌++◌, append_assoc, append-nil}
+use mathlib.Core.List.{List, [], ◌∷◌, ◌++◌, append_assoc}
 use Prim.Native.Nat.{ℕ, suc, ◌+◌, ◌-◌, ◌*◌, ◌≤◌}
 use native.Mathlib.Nat.{add-zero, zero-add}
 use native.Mathlib.Numerals.{add-one}
 use native.Mathlib.Omega.{arith}
-use lib.ListN.{length, set, take, drop, length-append, length-drop, drop_of_length-le}
-use lib.Seq.{take_all, drop-drop, sets, sets-eq}
-use borrow.Rule.Slice.PartMut.{mid_of, put_mid}
+use lib.ListN.{length, set, take, drop, length-append}
+use lib.Seq.{drop-drop, sets, sets-eq}
+use borrow.Rule.Slice.PartMut.{put_mid}
 use Rattle.pack.specs.Layout.{four_bytes, index}
 use Rattle.pack.specs.Write.{profiles_of}
 use Rattle.pack.proofs.Places.{index_next}
 use Rattle.pack_write.specs.Puts.{Puts}
 
--- A piece that was copied to the front of what begins at `at` has been stored from `at` on.
-pub stored : (buffer : List ℕ) (at : ℕ) (piece : List ℕ) → at + length piece ≤ length buffer →
-    put_mid at (length buffer - at) buffer (take (length piece) piece ++ drop (length piece) (mid_of at (length buffer - at) buffer)) ≡ sets buffer at piece
+-- A piece that was copied over as many bytes from `at` on has been stored there.
+pub stored : (buffer : List ℕ) (at : ℕ) (piece : List ℕ) → at + length piece ≤ length buffer → put_mid at (at + length piece - at) buffer piece ≡ sets buffer at piece
 stored buffer at piece room =
-    let size = length piece in
-    let behind = length-drop at buffer in
-    let all : mid_of at (length buffer - at) buffer ≡ drop at buffer = take_all (length buffer - at) (drop at buffer) (omega arith) in
-    let none : drop (length buffer - at) (drop at buffer) ≡ [] = drop_of_length-le (drop at buffer) {i = length buffer - at} (omega arith) in
-    (λ k. take at buffer ++ ((take_all size piece (omega arith) k ++ drop size (all k)) ++ none k))
-    ∙ (λ k. take at buffer ++ append-nil (piece ++ drop-drop size at buffer k) k)
-    ∙ sym (append_assoc (take at buffer) piece (drop (at + size) buffer))
+    let size : at + length piece - at ≡ length piece = omega arith in
+    (λ k. take at buffer ++ (piece ++ drop (size k) (drop at buffer)))
+    ∙ (λ k. take at buffer ++ (piece ++ drop-drop (length piece) at buffer k))
+    ∙ sym (append_assoc (take at buffer) piece (drop (at + length piece) buffer))
     ∙ sym (sets-eq piece buffer at room)
 
 -- Two pieces, the second where the first ends, are one.

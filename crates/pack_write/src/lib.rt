@@ -10,12 +10,17 @@ ghost use Rattle.pack_write.specs.Puts.{Puts};
 
 use pack_fields::{ascends, four_bytes};
 
+// A pack has so many profiles at most.
+const MOST: usize = 256;
+
 // Puts a piece into a buffer from `at` on. Answers where it ends, as the two below do.
 fn put(buffer: &mut [u8], at: usize, piece: &[u8]) -> usize
     requires { at + length piece.now ≤ length buffer.old }
     ensures { Puts piece.now buffer.old at buffer.new result }
 {
-    at + bytes::copy(piece, &mut buffer[at..])
+    let end = at + piece.len();
+    buffer[at..end].copy_from_slice(piece);
+    end
 }
 
 // Puts the index: each name, and behind it the offset of its body.
@@ -62,7 +67,7 @@ pub fn write(names: &[u8], bodies: &[u8], buffer: &mut [u8]) -> u32
     if names.len() / 16 != number {
         return 16;
     }
-    if number > 256 {
+    if number > MOST {
         return 17;
     }
     if !ascends(names, 0) {

@@ -2,4 +2,4 @@
 use Rattle.entry_by_value.proofs.advance.Goals as goal
 
 pub returns : goal.returns
-returns c = (c.advance.ensures c.whole.ensures).0
+returns c = (c.advance-advanced.ensures c.whole.ensures).0

@@ -2,4 +2,4 @@
 use Rattle.entry_by_value.proofs.deliver.Goals as goal
 
 pub returns : goal.returns
-returns c = (c.deliver.ensures c.args.chip c.whole.ensures).0
+returns c = (c.deliver-delivered.ensures c.args.chip c.whole.ensures).0

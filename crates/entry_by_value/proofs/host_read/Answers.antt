@@ -2,4 +2,4 @@
 use Rattle.entry_by_value.proofs.host_read.Goals as goal
 
 pub returns : goal.returns
-returns c = (c.host_read.ensures c.args.chip c.whole.ensures).0
+returns c = (c.host_read-read.ensures c.args.chip c.whole.ensures).0

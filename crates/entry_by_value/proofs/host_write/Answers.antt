@@ -2,4 +2,4 @@
 use Rattle.entry_by_value.proofs.host_write.Goals as goal
 
 pub returns : goal.returns
-returns c = (c.host_write.ensures c.whole.ensures).0
+returns c = (c.host_write-written.ensures c.whole.ensures).0

@@ -2,4 +2,4 @@
 use Rattle.entry_by_value.proofs.start.Goals as goal
 
 pub returns : goal.returns
-returns c = (c.start.ensures c.whole.ensures).0
+returns c = (c.start-started.ensures c.whole.ensures).0

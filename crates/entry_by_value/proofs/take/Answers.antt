@@ -2,4 +2,4 @@
 use Rattle.entry_by_value.proofs.take.Goals as goal
 
 pub returns : goal.returns
-returns c = (c.take.ensures c.args.chip c.whole.ensures).0
+returns c = (c.take-taken.ensures c.args.chip c.whole.ensures).0

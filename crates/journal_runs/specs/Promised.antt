@@ -51,87 +51,87 @@ pub record Promised (T : Ended) (contract : Contract T) : Type 2 where
       }
 
 -- On a chip lent: the relation is between the chip at entry and the chip at exit, and a buffer lent is that at exit.
-abbrev pub start_in_place : Promised mfrc531_start.ended (λ M. mfrc531_start.spec {M = M})
+abbrev pub start_in_place : Promised mfrc531_start.ended (λ M 𝓤. mfrc531_start.spec {M = M} {𝓤 = 𝓤})
 start_in_place = record {
   Promise = λ κs (chip, (image, _)) r (chip', _). Meets chip.now (start image.now) chip'.now r [];
   whole_contract = λ M 𝓤 𝓛 mem run κs args. refl;
 }
 
-abbrev pub read_in_place : Promised mfrc531_read.ended (λ M. mfrc531_read.spec {M = M})
+abbrev pub read_in_place : Promised mfrc531_read.ended (λ M 𝓤. mfrc531_read.spec {M = M} {𝓤 = 𝓤})
 read_in_place = record {
   Promise = λ κs (chip, (address, _)) r (chip', _). Meets chip.now (host_read address) chip'.now r [];
   whole_contract = λ M 𝓤 𝓛 mem run κs args. refl;
 }
 
-abbrev pub write_in_place : Promised mfrc531_write.ended (λ M. mfrc531_write.spec {M = M})
+abbrev pub write_in_place : Promised mfrc531_write.ended (λ M 𝓤. mfrc531_write.spec {M = M} {𝓤 = 𝓤})
 write_in_place = record {
   Promise = λ κs (chip, (address, (v, _))) r (chip', _). Meets chip.now (host_write address v) chip'.now r [];
   whole_contract = λ M 𝓤 𝓛 mem run κs args. refl;
 }
 
-abbrev pub advance_in_place : Promised mfrc531_advance.ended (λ M. mfrc531_advance.spec {M = M})
+abbrev pub advance_in_place : Promised mfrc531_advance.ended (λ M 𝓤. mfrc531_advance.spec {M = M} {𝓤 = 𝓤})
 advance_in_place = record {
   Promise = λ κs (chip, (clocks, _)) r (chip', _). Meets chip.now (advance clocks) chip'.now r [];
   whole_contract = λ M 𝓤 𝓛 mem run κs args. refl;
 }
 
-abbrev pub take_in_place : Promised mfrc531_take.ended (λ M. mfrc531_take.spec {M = M})
+abbrev pub take_in_place : Promised mfrc531_take.ended (λ M 𝓤. mfrc531_take.spec {M = M} {𝓤 = 𝓤})
 take_in_place = record {
   Promise = λ κs (chip, (buffer, _)) r (chip', (buffer', _)). Meets chip.now (take_frame buffer.now) chip'.now r buffer'.now;
   whole_contract = λ M 𝓤 𝓛 mem run κs args. refl;
 }
 
-abbrev pub deliver_in_place : Promised mfrc531_deliver.ended (λ M. mfrc531_deliver.spec {M = M})
+abbrev pub deliver_in_place : Promised mfrc531_deliver.ended (λ M 𝓤. mfrc531_deliver.spec {M = M} {𝓤 = 𝓤})
 deliver_in_place = record {
   Promise = λ κs (chip, (bytes, (parities, (last_bits, _)))) r (chip', _). Meets chip.now (deliver bytes.now parities.now last_bits) chip'.now r [];
   whole_contract = λ M 𝓤 𝓛 mem run κs args. refl;
 }
 
 -- By value: the next chip is in the result.
-abbrev pub start_by_value : Promised by_value_start.ended (λ M. by_value_start.spec {M = M})
+abbrev pub start_by_value : Promised by_value_start.ended (λ M 𝓤. by_value_start.spec {M = M} {𝓤 = 𝓤})
 start_by_value = record {
   Promise = λ κs (chip, (image, _)) r exit. Meets chip (start image.now) r.chip r.answer [];
   whole_contract = λ M 𝓤 𝓛 mem run κs args. refl;
 }
 
-abbrev pub read_by_value : Promised by_value_host_read.ended (λ M. by_value_host_read.spec {M = M})
+abbrev pub read_by_value : Promised by_value_host_read.ended (λ M 𝓤. by_value_host_read.spec {M = M} {𝓤 = 𝓤})
 read_by_value = record {
   Promise = λ κs (chip, (address, _)) r exit. Meets chip (host_read address) r.chip r.answer [];
   whole_contract = λ M 𝓤 𝓛 mem run κs args. refl;
 }
 
-abbrev pub write_by_value : Promised by_value_host_write.ended (λ M. by_value_host_write.spec {M = M})
+abbrev pub write_by_value : Promised by_value_host_write.ended (λ M 𝓤. by_value_host_write.spec {M = M} {𝓤 = 𝓤})
 write_by_value = record {
   Promise = λ κs (chip, (address, (v, _))) r exit. Meets chip (host_write address v) r.chip r.answer [];
   whole_contract = λ M 𝓤 𝓛 mem run κs args. refl;
 }
 
-abbrev pub advance_by_value : Promised by_value_advance.ended (λ M. by_value_advance.spec {M = M})
+abbrev pub advance_by_value : Promised by_value_advance.ended (λ M 𝓤. by_value_advance.spec {M = M} {𝓤 = 𝓤})
 advance_by_value = record {
   Promise = λ κs (chip, (clocks, _)) r exit. Meets chip (advance clocks) r.chip r.answer [];
   whole_contract = λ M 𝓤 𝓛 mem run κs args. refl;
 }
 
-abbrev pub take_by_value : Promised by_value_take.ended (λ M. by_value_take.spec {M = M})
+abbrev pub take_by_value : Promised by_value_take.ended (λ M 𝓤. by_value_take.spec {M = M} {𝓤 = 𝓤})
 take_by_value = record {
   Promise = λ κs (chip, (buffer, _)) r (_, (buffer', _)). Meets chip (take_frame buffer.now) r.chip r.answer buffer'.now;
   whole_contract = λ M 𝓤 𝓛 mem run κs args. refl;
 }
 
-abbrev pub deliver_by_value : Promised by_value_deliver.ended (λ M. by_value_deliver.spec {M = M})
+abbrev pub deliver_by_value : Promised by_value_deliver.ended (λ M 𝓤. by_value_deliver.spec {M = M} {𝓤 = 𝓤})
 deliver_by_value = record {
   Promise = λ κs (chip, (bytes, (parities, (last_bits, _)))) r exit. Meets chip (deliver bytes.now parities.now last_bits) r.chip r.answer [];
   whole_contract = λ M 𝓤 𝓛 mem run κs args. refl;
 }
 
 -- The call for the sum of lost bytes.
-abbrev pub sum_in_place : Promised mfrc531_lost_sum.ended (λ M. mfrc531_lost_sum.spec {M = M})
+abbrev pub sum_in_place : Promised mfrc531_lost_sum.ended (λ M 𝓤. mfrc531_lost_sum.spec {M = M} {𝓤 = 𝓤})
 sum_in_place = record {
   Promise = λ κs (chip, _) r exit. r ≡ lost_sum_of chip.now;
   whole_contract = λ M 𝓤 𝓛 mem run κs args. refl;
 }
 
-abbrev pub sum_by_value : Promised by_value_lost_sum.ended (λ M. by_value_lost_sum.spec {M = M})
+abbrev pub sum_by_value : Promised by_value_lost_sum.ended (λ M 𝓤. by_value_lost_sum.spec {M = M} {𝓤 = 𝓤})
 sum_by_value = record {
   Promise = λ κs (chip, _) r exit. r ≡ lost_sum_of chip;
   whole_contract = λ M 𝓤 𝓛 mem run κs args. refl;

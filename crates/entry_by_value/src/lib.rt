@@ -11,7 +11,7 @@ ghost use Rattle.state.specs.LostSum.{lost_sum_of};
 use state::Chip;
 
 // What an event by value gives back: the next chip, and the number answered.
-#[derive(Drop)]
+#[derive(Clone, Copy)]
 pub struct Outcome {
     pub chip: Chip,
     pub answer: u32,

@@ -14,7 +14,7 @@ use Rattle.state.specs.Meets.{coded}
 use Rattle.state.specs.declared.Chip.{Chip}
 use Rattle.entry_by_value.specs.declared.Outcome.{Outcome}
 use Rattle.journal_runs.specs.Promised as contracts
-use Rattle.std.specs.Borrow.{Bor}
+use Rattle.std.specs.Borrow.{Bor, MutBor}
 use contract.Lifetimes.{Lfts}
 
 -- A call with what the program gave back: the number answered, the buffer lent, and the chip that it left.
@@ -33,17 +33,17 @@ step call answer buffer chip = record { call = call; answer = answer; buffer = b
 -- One call of a chip: for each of the twelve functions what its own contract promises, of these arguments, this result, and the arguments at
 -- exit. In place the chip is that lent, at entry and at exit; by value the next chip is in the result.
 pub data Called : Chip → Step → Type 0 where
-  start_in_place : (κs : Lfts 2) (chip chip' : Bor Chip) (image : Bor (List ℕ)) (r : ℕ) →
+  start_in_place : (κs : Lfts 2) (chip chip' : MutBor Chip) (image : Bor (List ℕ)) (r : ℕ) →
       (contracts.start_in_place).Promise κs (chip, (image, tt)) r (chip', (image, tt)) → Called chip.now (step (start image.now) r [] chip'.now)
-  read_in_place : (κs : Lfts 1) (chip chip' : Bor Chip) (address r : ℕ) →
+  read_in_place : (κs : Lfts 1) (chip chip' : MutBor Chip) (address r : ℕ) →
       (contracts.read_in_place).Promise κs (chip, (address, tt)) r (chip', (address, tt)) → Called chip.now (step (host_read address) r [] chip'.now)
-  write_in_place : (κs : Lfts 1) (chip chip' : Bor Chip) (address v r : ℕ) →
+  write_in_place : (κs : Lfts 1) (chip chip' : MutBor Chip) (address v r : ℕ) →
       (contracts.write_in_place).Promise κs (chip, (address, (v, tt))) r (chip', (address, (v, tt))) → Called chip.now (step (host_write address v) r [] chip'.now)
-  advance_in_place : (κs : Lfts 1) (chip chip' : Bor Chip) (clocks r : ℕ) →
+  advance_in_place : (κs : Lfts 1) (chip chip' : MutBor Chip) (clocks r : ℕ) →
       (contracts.advance_in_place).Promise κs (chip, (clocks, tt)) r (chip', (clocks, tt)) → Called chip.now (step (advance clocks) r [] chip'.now)
-  take_in_place : (κs : Lfts 2) (chip chip' : Bor Chip) (buffer buffer' : Bor (List ℕ)) (r : ℕ) →
+  take_in_place : (κs : Lfts 2) (chip chip' : MutBor Chip) (buffer buffer' : MutBor (List ℕ)) (r : ℕ) →
       (contracts.take_in_place).Promise κs (chip, (buffer, tt)) r (chip', (buffer', tt)) → Called chip.now (step (take_frame buffer.now) r buffer'.now chip'.now)
-  deliver_in_place : (κs : Lfts 3) (chip chip' : Bor Chip) (bytes parities : Bor (List ℕ)) (last_bits r : ℕ) →
+  deliver_in_place : (κs : Lfts 3) (chip chip' : MutBor Chip) (bytes parities : Bor (List ℕ)) (last_bits r : ℕ) →
       (contracts.deliver_in_place).Promise κs (chip, (bytes, (parities, (last_bits, tt)))) r (chip', (bytes, (parities, (last_bits, tt)))) →
       Called chip.now (step (deliver bytes.now parities.now last_bits) r [] chip'.now)
   start_by_value : (κs : Lfts 1) (chip : Chip) (image : Bor (List ℕ)) (r : Outcome) →
@@ -54,7 +54,7 @@ pub data Called : Chip → Step → Type 0 where
       (contracts.write_by_value).Promise tt (chip, (address, (v, tt))) r (chip, (address, (v, tt))) → Called chip (step (host_write address v) r.answer [] r.chip)
   advance_by_value : (chip : Chip) (clocks : ℕ) (r : Outcome) →
       (contracts.advance_by_value).Promise tt (chip, (clocks, tt)) r (chip, (clocks, tt)) → Called chip (step (advance clocks) r.answer [] r.chip)
-  take_by_value : (κs : Lfts 1) (chip : Chip) (buffer buffer' : Bor (List ℕ)) (r : Outcome) →
+  take_by_value : (κs : Lfts 1) (chip : Chip) (buffer buffer' : MutBor (List ℕ)) (r : Outcome) →
       (contracts.take_by_value).Promise κs (chip, (buffer, tt)) r (chip, (buffer', tt)) → Called chip (step (take_frame buffer.now) r.answer buffer'.now r.chip)
   deliver_by_value : (κs : Lfts 2) (chip : Chip) (bytes parities : Bor (List ℕ)) (last_bits : ℕ) (r : Outcome) →
       (contracts.deliver_by_value).Promise κs (chip, (bytes, (parities, (last_bits, tt)))) r (chip, (bytes, (parities, (last_bits, tt)))) →

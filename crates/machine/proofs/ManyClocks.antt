@@ -1,4 +1,5 @@
 -- Many clocks at once.
+pub mod Round
 pub mod Timer
 pub mod Pieces
 pub mod Six

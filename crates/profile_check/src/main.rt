@@ -5,54 +5,79 @@
 
 #![tactic(auto)]
 
-ghost use Rattle.std.specs.Prelude.{◌≤◌, length};
-ghost use Rattle.profile_check.specs.Input.{count_of};
+ghost use Rattle.std.specs.Prelude.{◌≤◌, length, OnOk};
+ghost use Rattle.std.specs.Io.KnownBytes.{Appends};
+ghost use Rattle.profile_check.specs.Input.{count_of, IsRead, verdict_line, Judges};
 
 use edition::Edition;
-use libc::{STDIN_FILENO, STDOUT_FILENO};
+use std::io;
+use std::io::{Read, Write};
 
 #[derive(Drop)]
 enum Input {
     // This many bytes at the start of the buffer.
     Bytes(usize),
-    Failed,
+    Failed(io::Error),
 }
 
-// Reads standard input until the buffer is full or the input ends.
-fn read_input(buffer: &mut [u8]) -> Input
-    ensures { count_of result ≤ length buffer.new }
+// Reads until the buffer is full or the input ends.
+fn read_input<R: Read>(input: &mut R, buffer: &mut [u8]) -> Input
+    ensures within { count_of result ≤ length buffer.new }
+    ensures bytes { IsRead (R.remaining input.old) (R.remaining input.new) buffer.new result }
 {
     let mut have = 0;
     while have < buffer.len() {
-        let part = &mut buffer[have..];
-        let got = libc::read(STDIN_FILENO, part);
-        if got < 0 {
-            return Input::Failed;
+        match input.read(&mut buffer[have..]) {
+            Ok(0) => break,
+            Ok(more) => have += more,
+            Err(error) => return Input::Failed(error),
         }
-        let more = io::count(got, part);
-        if more == 0 {
-            break;
-        }
-        have += more;
     }
     Input::Bytes(have)
 }
 
 // Writes the verdict on a profile.
-fn answer(profile: &[u8]) {
+fn answer<W: Write>(output: &mut W, profile: &[u8]) -> io::Result<()>
+    ensures { OnOk result (Appends (W.contents output.old) (W.contents output.new) (verdict_line profile.now)) }
+{
     let mut line = [0u8; 32];
     let end = profile_line::write_line(profile::check(Edition::Mfrc531, profile), &mut line);
-    if !io::write_all(STDOUT_FILENO, &line[..end]) {
-        os::fail(b"profile_check: standard output");
+    output.write_all(&line[..end])
+}
+
+#[derive(Drop)]
+enum Failure {
+    Input(io::Error),
+    Output(io::Error),
+}
+
+// Reads a profile, and writes the line for it.
+fn judge<R: Read, W: Write>(input: &mut R, output: &mut W) -> Result<(), Failure>
+    ensures { Judges (R.remaining input.old) (W.contents output.old) (W.contents output.new) result }
+{
+    let mut buffer = [0u8; 33];
+    match read_input(input, &mut buffer) {
+        Input::Failed(error) => Err(Failure::Input(error)),
+        Input::Bytes(count) => match answer(output, &buffer[..count]) {
+            Ok(()) => Ok(()),
+            Err(error) => Err(Failure::Output(error)),
+        },
     }
 }
 
-fn main() {
-    let mut buffer = [0u8; 33];
-    let input = read_input(&mut buffer);
-    let Input::Bytes(count) = input else {
-        os::fail(b"profile_check: standard input");
-        return;
-    };
-    answer(&buffer[..count]);
+// Names what failed and why on standard error, without the number that the system has for it.
+fn fail(rt: &(impl Eprint + AllocGlobal), what: &str, error: io::Error) -> io::Result<()> {
+    let whole = format!(in rt.alloc(); "{error}")?;
+    match whole.as_str().split_once(" (os error ") {
+        Some((reason, _)) => eprintln!(rt; "profile_check: {what}: {reason}"),
+        None => eprintln!(rt; "profile_check: {what}: {whole}"),
+    }
+}
+
+fn main(rt: HostRuntime) -> io::Result<()> {
+    match judge(&mut rt.reader(), &mut io::writer(&rt)) {
+        Ok(()) => Ok(()),
+        Err(Failure::Input(error)) => fail(&rt, "standard input", error),
+        Err(Failure::Output(error)) => fail(&rt, "standard output", error),
+    }
 }

@@ -6,9 +6,9 @@
 
 #![tactic(auto)]
 
-use libc::STDOUT_FILENO;
 use program_blank_chip::{blank_chip, blank_image};
 use state::Chip;
+use std::io;
 
 const COMMAND: u8 = 0x01;
 
@@ -38,10 +38,8 @@ fn written(chip: Chip, address: u8, v: u8) -> Chip {
 fn five_bytes_written(chip: Chip) -> Chip {
     let bytes = [0x6Cu8, 0x01, 0x11, 0x22, 0x33, 0x44, 0x55];
     let mut next = written(chip, COMMAND, 0x01);
-    let mut i: usize = 0;
-    while i < 7 {
-        next = written(next, FIFO_DATA, bytes[i]);
-        i += 1;
+    for byte in bytes {
+        next = written(next, FIFO_DATA, byte);
     }
     next
 }
@@ -59,56 +57,48 @@ fn read(chip: Chip, address: u8) -> u32 {
     out.answer / 0x100
 }
 
-fn show_number(before: &[u8], n: u32) {
-    io::write_all(STDOUT_FILENO, before);
-    io::print_decimal(STDOUT_FILENO, n as u64);
+fn show_number(rt: &impl Print, before: &str, n: u32) -> io::Result<()> {
+    print!(rt; "{before}{n}")
 }
 
 // The EEPROM's bytes at 16Ch to 170h.
-fn show_eeprom(chip: Chip) {
+fn show_eeprom(rt: &impl Print, chip: Chip) -> io::Result<()> {
     let eeprom = chip.eeprom;
-    let mut i: usize = 0x16C;
-    while i < 0x171 {
-        io::write_all(STDOUT_FILENO, b"   ");
-        io::print_hex(STDOUT_FILENO, eeprom[i] as u64, 2);
-        i += 1;
+    for i in 0x16C..0x171 {
+        let byte = eeprom[i];
+        print!(rt; "   {byte:02x}")?;
     }
+    Ok(())
 }
 
 // A line of the table.
-fn show(chip: Chip, clock: u32) {
-    show_number(b"      ", read(chip, SECONDARY_STATUS) / 0x40 % 2);
-    show_number(b"     ", read(chip, INTERRUPT_RQ) / 0x10 % 2);
-    show_number(b"          ", read(chip, FIFO_LENGTH));
-    show_eeprom(chip);
-    show_number(b" ", clock);
-    io::write_all(STDOUT_FILENO, b"\n");
+fn show(rt: &impl Print, chip: Chip, clock: u32) -> io::Result<()> {
+    show_number(rt, "      ", read(chip, SECONDARY_STATUS) / 0x40 % 2)?;
+    show_number(rt, "     ", read(chip, INTERRUPT_RQ) / 0x10 % 2)?;
+    show_number(rt, "          ", read(chip, FIFO_LENGTH))?;
+    show_eeprom(rt, chip)?;
+    show_number(rt, " ", clock)?;
+    println!(rt; "")
 }
 
 // A programming of 78,648 clocks: a line one clock before its end, and a line at its end.
-fn programmed(chip: Chip, before: u32, end: u32) -> Chip {
+fn programmed(rt: &impl Print, chip: Chip, before: u32, end: u32) -> io::Result<Chip> {
     let near = advanced(chip, 78_647);
-    show(near, before);
+    show(rt, near, before)?;
     let next = advanced(near, 1);
-    show(next, end);
-    next
+    show(rt, next, end)?;
+    Ok(next)
 }
 
-fn main() {
-    io::write_all(
-        STDOUT_FILENO,
-        b"WriteE2 of 11 22 33 44 55 at 16Ch, one by one, no clock between\n",
-    );
-    io::write_all(
-        STDOUT_FILENO,
-        b"E2Ready TxIRq FIFOLength 16Ch 16Dh 16Eh 16Fh 170h at clock\n",
-    );
+fn main(rt: HostRuntime) -> io::Result<()> {
+    println!(rt; "WriteE2 of 11 22 33 44 55 at 16Ch, one by one, no clock between")?;
+    println!(rt; "E2Ready TxIRq FIFOLength 16Ch 16Dh 16Eh 16Fh 170h at clock")?;
     let written = five_bytes_written(started());
-    show(written, 0);
-    let first = programmed(written, 78_647, 78_648);
-    let second = programmed(first, 157_295, 157_296);
-    programmed(second, 235_943, 235_944);
-    io::write_all(STDOUT_FILENO, b"In one advance\n");
-    show(advanced(written, 235_943), 235_943);
-    show(advanced(written, 235_944), 235_944);
+    show(&rt, written, 0)?;
+    let first = programmed(&rt, written, 78_647, 78_648)?;
+    let second = programmed(&rt, first, 157_295, 157_296)?;
+    programmed(&rt, second, 235_943, 235_944)?;
+    println!(rt; "In one advance")?;
+    show(&rt, advanced(written, 235_943), 235_943)?;
+    show(&rt, advanced(written, 235_944), 235_944)
 }

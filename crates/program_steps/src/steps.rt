@@ -31,40 +31,44 @@ fn cleared(chip: Chip) -> Chip
 }
 
 // The line of an outcome, and its chip.
-fn shown(out: Outcome, step: &[u8]) -> Chip
+fn shown(rt: &impl Print, out: Outcome, step: &[u8]) -> Chip
     ensures { result ≡ out.chip }
 {
     let chip = out.chip;
-    table::line(chip, out.answer, step);
+    table::line(rt, chip, out.answer, step);
     chip
 }
 
 // A start. Page is 80h after it, which shows page 0 at every address; it is set to 00h before the line, so that addresses are registers.
-pub fn start(chip: Chip, image: &[u8], step: &[u8]) -> Chip
+pub fn start(rt: &impl Print, chip: Chip, image: &[u8], step: &[u8]) -> Chip
     ensures { LeadsBy (refusals_start image.now ∷ host_write 0x00 0x00 ∷ []) chip result }
 {
     let out = entry_by_value::start(chip, image);
     let next = set(out.chip, 0x00, 0x00);
-    table::line(next, out.answer, step);
+    table::line(rt, next, out.answer, step);
     next
 }
 
-pub fn write(chip: Chip, address: u8, v: u8, step: &[u8]) -> Chip
+pub fn write(rt: &impl Print, chip: Chip, address: u8, v: u8, step: &[u8]) -> Chip
     ensures { LeadsBy (host_write 0x07 0x3F ∷ host_write address v ∷ []) chip result }
 {
-    shown(entry_by_value::host_write(cleared(chip), address, v), step)
+    shown(
+        rt,
+        entry_by_value::host_write(cleared(chip), address, v),
+        step,
+    )
 }
 
-pub fn read(chip: Chip, address: u8, step: &[u8]) -> Chip
+pub fn read(rt: &impl Print, chip: Chip, address: u8, step: &[u8]) -> Chip
     ensures { LeadsBy (host_write 0x07 0x3F ∷ host_read address ∷ []) chip result }
 {
-    shown(entry_by_value::host_read(cleared(chip), address), step)
+    shown(rt, entry_by_value::host_read(cleared(chip), address), step)
 }
 
-pub fn clocks(chip: Chip, count: u32, step: &[u8]) -> Chip
+pub fn clocks(rt: &impl Print, chip: Chip, count: u32, step: &[u8]) -> Chip
     ensures { LeadsBy (host_write 0x07 0x3F ∷ advance count ∷ []) chip result }
 {
-    shown(entry_by_value::advance(cleared(chip), count), step)
+    shown(rt, entry_by_value::advance(cleared(chip), count), step)
 }
 
 // Bytes for FIFOData, one by one, after a call; the last call's answer is handed on.
@@ -73,71 +77,74 @@ fn fed(out: Outcome, bytes: &[u8]) -> Outcome
 {
     let mut chip = out.chip;
     let mut answer = out.answer;
-    let mut i: usize = 0;
-    while i < bytes.len() {
+    for i in 0..bytes.len() {
         let step = entry_by_value::host_write(chip, FIFO_DATA, bytes[i]);
         chip = step.chip;
         answer = step.answer;
-        i += 1;
     }
-    Outcome {
-        chip: chip,
-        answer: answer,
-    }
+    Outcome { chip, answer }
 }
 
-pub fn feed(chip: Chip, bytes: &[u8], step: &[u8]) -> Chip
+pub fn feed(rt: &impl Print, chip: Chip, bytes: &[u8], step: &[u8]) -> Chip
     ensures { LeadsBy (host_write 0x07 0x3F ∷ map (host_write 0x02) bytes.now) chip result }
 {
     let ready = entry_by_value::host_write(chip, INTERRUPT_RQ, 0x3F);
-    shown(fed(ready, bytes), step)
+    shown(rt, fed(ready, bytes), step)
 }
 
 // A command and the bytes for it.
-pub fn command(chip: Chip, code: u8, bytes: &[u8], step: &[u8]) -> Chip
+pub fn command(rt: &impl Print, chip: Chip, code: u8, bytes: &[u8], step: &[u8]) -> Chip
     ensures { let calls = host_write 0x07 0x3F ∷ host_write 0x01 code ∷ map (host_write 0x02) bytes.now in
         LeadsBy calls chip result }
 {
     let active = entry_by_value::host_write(cleared(chip), COMMAND, code);
-    shown(fed(active, bytes), step)
+    shown(rt, fed(active, bytes), step)
 }
 
 // The bytes of the frame taken, where the number answered has a count of them.
-fn frame(answer: u32, buffer: &[u8]) {
+fn frame(rt: &impl Print, answer: u32, buffer: &[u8]) {
     let count = (answer / 0x100 % 0x100) as usize;
     if count == 0 {
         return;
     }
     if count <= buffer.len() {
-        table::bytes(b"         the frame:", &buffer[0..count]);
+        table::bytes(rt, b"         the frame:", &buffer[0..count]);
     }
 }
 
 // A take into a buffer of 66 bytes, with a line of the frame's bytes.
-pub fn take(chip: Chip, step: &[u8]) -> Chip
+pub fn take(rt: &impl Print, chip: Chip, step: &[u8]) -> Chip
     ensures { LeadsBy (host_write 0x07 0x3F ∷ take_frame (replicate 66 0) ∷ []) chip result }
 {
     let mut buffer = [0u8; 66];
     let out = entry_by_value::take(cleared(chip), &mut buffer);
     let answer = out.answer;
-    let next = shown(out, step);
-    frame(answer, &buffer);
+    let next = shown(rt, out, step);
+    frame(rt, answer, &buffer);
     next
 }
 
 // A take into a buffer that is too short by a byte.
-pub fn take_short(chip: Chip, step: &[u8]) -> Chip
+pub fn take_short(rt: &impl Print, chip: Chip, step: &[u8]) -> Chip
     ensures { LeadsBy (host_write 0x07 0x3F ∷ take_frame (replicate 65 0) ∷ []) chip result }
 {
     let mut buffer = [0u8; 65];
-    shown(entry_by_value::take(cleared(chip), &mut buffer), step)
+    shown(rt, entry_by_value::take(cleared(chip), &mut buffer), step)
 }
 
-pub fn deliver(chip: Chip, bytes: &[u8], parities: &[u8], last_bits: u8, step: &[u8]) -> Chip
+pub fn deliver(
+    rt: &impl Print,
+    chip: Chip,
+    bytes: &[u8],
+    parities: &[u8],
+    last_bits: u8,
+    step: &[u8],
+) -> Chip
     ensures { let delivery = refusals_deliver bytes.now parities.now last_bits in
         LeadsBy (host_write 0x07 0x3F ∷ delivery ∷ []) chip result }
 {
     shown(
+        rt,
         entry_by_value::deliver(cleared(chip), bytes, parities, last_bits),
         step,
     )

@@ -16,7 +16,7 @@ ghost use Rattle.state.specs.Meets.{coded};
 
 // A chip. Elements that no name below stands for are kept for later fields; a start leaves them 0.
 #[repr(C)]
-#[derive(Drop)]
+#[derive(Clone, Copy)]
 pub struct Chip {
     pub clocks: [u32; 2],
     pub numbers: [u16; 6],

@@ -14,6 +14,7 @@ use Rattle.machine.specs.Timer.{t_auto_restart, timer_reload, stopped_at, runnin
 use Rattle.machine.specs.WellFormed.{timer_formed}
 use Rattle.machine.specs.ManyClocks.{after_steps, timer_after}
 use Rattle.machine.proofs.WellFormed.Timer.{running}
+use Rattle.machine.proofs.ManyClocks.Round.{round_of}
 
 -- A count by a period: one more is one more of the remainder, or of the quotient.
 module _ (c period : ℕ) (some : 0 < period) where
@@ -55,7 +56,7 @@ module _ (m : Machine) where
 
   -- A timer that has come to its end, so many steps ago: its value where it goes round, and the machine.
   abbrev round : ℕ → ℕ
-  round since = r - since % r
+  round since = round_of r since
 
   abbrev past : ℕ → ℕ → Machine
   past since phase = with_timer (cond again (running_at (round since) p phase) (stopped_at 0)) (raised_timer m)

@@ -1,0 +1,6 @@
+-- `steps::write` meets its contract, by the promises of its two calls.
+use Rattle.program_steps.proofs.LeadLaws.{leads_last}
+use Rattle.program_steps.proofs.steps.write.Goals as goal
+
+pub returns : goal.returns
+returns g c = leads_last c.cleared.ensures c.host_write.ensures c.shown.ensures

@@ -20,9 +20,9 @@ well_formed_lem : (past : Joined-not-quick) (chip : Chip) → Whole ((clocks_num
 well_formed_lem past chip whole =
     let old = (clocks_numbers_state_registers_slots_eeprom past.args.clocks.now past.args.numbers.now past.args.state.now past.args.registers.now past.args.slots.now past.args.eeprom.now) chip in
     elim past.if-not-quick.branch [
-      then-not-quick+else-not-formed w ↦ sym (w.formed.ensures old whole.sizes) ∙ w.if-not-formed.false
-    | else-not-quick+else-not-of_own_edition w ↦
-        usual_formed old whole.sizes (sym (past.quick.ensures old) ∙ w.if-not-quick.false) (sym w.of_own_edition.ensures ∙ w.if-not-of_own_edition.false)
+      | then-not-quick+else-not-formed w ↦ sym (w.formed.ensures old whole.sizes) ∙ w.if-not-formed.false
+      | else-not-quick+else-not-of_own_edition w ↦
+          usual_formed old whole.sizes (sym (past.quick.ensures old) ∙ w.if-not-quick.false) (sym w.of_own_edition.ensures ∙ w.if-not-of_own_edition.false)
     ]
 
 passes :

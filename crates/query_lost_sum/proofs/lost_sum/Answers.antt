@@ -15,9 +15,9 @@ well_formed_lem : (past : Joined-not-quick) (chip : Chip) → Sizes ((clocks_num
 well_formed_lem past chip sizes =
     let old = (clocks_numbers_state_eeprom past.args.clocks.now past.args.numbers.now past.args.state.now past.args.eeprom.now) chip in
     elim past.if-not-quick.branch [
-      then-not-quick+else-not-formed w ↦ sym (w.formed.ensures old sizes) ∙ w.if-not-formed.false
-    | else-not-quick+else-not-of_own_edition w ↦
-        usual_formed old sizes (sym (past.quick.ensures old) ∙ w.if-not-quick.false) (sym w.of_own_edition.ensures ∙ w.if-not-of_own_edition.false)
+      | then-not-quick+else-not-formed w ↦ sym (w.formed.ensures old sizes) ∙ w.if-not-formed.false
+      | else-not-quick+else-not-of_own_edition w ↦
+          usual_formed old sizes (sym (past.quick.ensures old) ∙ w.if-not-quick.false) (sym w.of_own_edition.ensures ∙ w.if-not-of_own_edition.false)
     ]
 
 -- The answer, by what was found.

@@ -21,7 +21,7 @@ use Rattle.state.specs.Meets.{coded, chip_refusal, Meets}
 use Rattle.state.specs.declared.Chip.{Chip}
 use Rattle.journal_runs.specs.Run.{Step, step, Called, Run, end, next}
 use Rattle.journal_runs.specs.Editions.{NoneStarted, ProgramEditions}
-use Rattle.journal_runs.proofs.Kept.{called_meets, start_passed}
+use Rattle.journal_runs.proofs.Kept.{called_meets, start_passed, all_promised}
 
 -- A start that succeeds.
 started_as : (image : List ℕ) (old fresh : Chip) → Called old (step (start image) 0 [] fresh) →
@@ -81,4 +81,4 @@ kept c last (s ∷ steps) (next called rest) (first, others) =
     let more = kept s.chip last steps rest others in (more.0 ∙ one.0, more.1 ∙ one.1)
 
 pub program_editions : ProgramEditions
-program_editions = record { started_as = started_as; kept = kept }
+program_editions = record { promised = all_promised; started_as = started_as; kept = kept }

@@ -25,6 +25,7 @@ use Rattle.state.specs.Formed.{chip_formed}
 use Rattle.state.specs.Meets.{coded, chip_refusal, Meets}
 use Rattle.state.specs.declared.Chip.{Chip}
 use Rattle.journal_runs.specs.Run.{Step, calls_of, step, Called, start_in_place, read_in_place, write_in_place, advance_in_place, take_in_place, deliver_in_place, start_by_value, read_by_value, write_by_value, advance_by_value, take_by_value, deliver_by_value, Run, end, next, AsDefined, AllAccounted, Kept, ProgramDemand3}
+use Rattle.journal_runs.specs.Promised as contracts
 use Rattle.journal_runs.proofs.Promised as whole
 
 -- A well-formed chip is refused as its machine is.
@@ -141,25 +142,29 @@ kept image old fresh c steps begins runs =
       next_call = subst NextCall same (demand_3.next_call image size (calls_of steps));
     }
 
+-- The fourteen contracts, whole.
+pub all_promised : contracts.AllPromised
+all_promised =
+    record {
+      start_in_place = whole.start_in_place;
+      read_in_place = whole.read_in_place;
+      write_in_place = whole.write_in_place;
+      advance_in_place = whole.advance_in_place;
+      take_in_place = whole.take_in_place;
+      deliver_in_place = whole.deliver_in_place;
+      start_by_value = whole.start_by_value;
+      read_by_value = whole.read_by_value;
+      write_by_value = whole.write_by_value;
+      advance_by_value = whole.advance_by_value;
+      take_by_value = whole.take_by_value;
+      deliver_by_value = whole.deliver_by_value;
+      sum_in_place = whole.sum_in_place;
+      sum_by_value = whole.sum_by_value;
+    }
+
 pub program_demand_3 : ProgramDemand3
 program_demand_3 =
     record {
-      promised =
-          record {
-            start_in_place = whole.start_in_place;
-            read_in_place = whole.read_in_place;
-            write_in_place = whole.write_in_place;
-            advance_in_place = whole.advance_in_place;
-            take_in_place = whole.take_in_place;
-            deliver_in_place = whole.deliver_in_place;
-            start_by_value = whole.start_by_value;
-            read_by_value = whole.read_by_value;
-            write_by_value = whole.write_by_value;
-            advance_by_value = whole.advance_by_value;
-            take_by_value = whole.take_by_value;
-            deliver_by_value = whole.deliver_by_value;
-            sum_in_place = whole.sum_in_place;
-            sum_by_value = whole.sum_by_value;
-          };
+      promised = all_promised;
       holds = kept;
     }

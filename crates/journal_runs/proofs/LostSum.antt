@@ -8,7 +8,7 @@ use Rattle.state.specs.Formed.{chip_formed}
 use Rattle.state.specs.LostSum.{coded_sum, lost_sum_of}
 use Rattle.state.specs.declared.Chip.{Chip}
 use Rattle.journal_runs.specs.LostSum.{Asked, in_place, by_value, ProgramLostSum}
-use Rattle.journal_runs.proofs.Kept.{program_demand_3}
+use Rattle.journal_runs.proofs.Kept.{program_demand_3, all_promised}
 
 -- Both forms answer the same.
 asked : {c : Chip} {answer : ℕ} → Asked c answer → answer ≡ lost_sum_of c
@@ -23,6 +23,7 @@ by_formed c t is = ap (λ (u : Bool). cond u (coded_sum (view c).lost_sum) 7) is
 pub program_lost_sum : ProgramLostSum
 program_lost_sum =
     record {
+      promised = all_promised;
       answers =
           λ image old fresh c steps answer begins runs call.
           let kept = program_demand_3.holds image old fresh c steps begins runs in

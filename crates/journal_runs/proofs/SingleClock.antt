@@ -18,7 +18,7 @@ use Rattle.state.specs.declared.Chip.{Chip}
 use Rattle.state.proofs.MeetLaws.{advance_refusal}
 use Rattle.journal_runs.specs.Run.{Step, step, calls_of, Called, Run, end, next}
 use Rattle.journal_runs.specs.SingleClock.{ProgramSingleClock}
-use Rattle.journal_runs.proofs.Kept.{called_meets}
+use Rattle.journal_runs.proofs.Kept.{called_meets, all_promised}
 
 -- An advance of a well-formed chip, and of one that is not.
 record Advanced (n : ℕ) (c d : Chip) (answer : ℕ) : Type 0 where
@@ -76,4 +76,4 @@ singles n answer c last whole steps run is once = go (chip_formed c) refl
         ∙ sym (one_by_one (λ x. chip_formed x ≡ false) (λ m. m) (λ k m. m) (λ m. refl) (λ k m. refl) (λ x y r buffer kind meets. let same = (stays meets kind).1 in (ap view same, ap chip_formed same ∙ kind)) n c last steps run is ill)
 
 pub program_single_clock : ProgramSingleClock
-program_single_clock = record { sums = sums; singles = singles }
+program_single_clock = record { promised = all_promised; sums = sums; singles = singles }

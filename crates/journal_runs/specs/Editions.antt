@@ -8,6 +8,7 @@ use Rattle.machine.specs.Editions.{is_start}
 use Rattle.state.specs.View.{view}
 use Rattle.state.specs.declared.Chip.{Chip}
 use Rattle.journal_runs.specs.Run.{Step, step, Called, Run}
+use Rattle.journal_runs.specs.Promised as contracts
 
 -- A start that answered 0; and none of a run's steps is one.
 abbrev pub started_anew : Step → Bool
@@ -17,7 +18,9 @@ unfoldable pub NoneStarted : List Step → Type 0
 NoneStarted [] = Unit {0}
 NoneStarted (s ∷ steps) = (started_anew s ≡ false) × NoneStarted steps
 
-pub record ProgramEditions : Type 0 where
+pub record ProgramEditions : Type 2 where
+  -- what a call rests on is what its function's contract says, whole
+  pub promised : contracts.AllPromised
   -- the chip that a start leaves is of its image's edition, which has that product type
   pub started_as :
       (image : List ℕ) (old fresh : Chip) → Called old (step (start image) 0 [] fresh) →

@@ -17,7 +17,9 @@ pub data Asked : Chip → ℕ → Type 0 where
   in_place : (κs : Lfts 1) (chip : Bor Chip) (r : ℕ) → (contracts.sum_in_place).Promise κs (chip, tt) r (chip, tt) → Asked chip.now r
   by_value : (chip : Chip) (r : ℕ) → (contracts.sum_by_value).Promise tt (chip, tt) r (chip, tt) → Asked chip r
 
-pub record ProgramLostSum : Type 0 where
+pub record ProgramLostSum : Type 2 where
+  -- what a call rests on is what its function's contract says, whole
+  pub promised : contracts.AllPromised
   -- after a start that succeeds and any run: every byte that the journal has turned away since the last flush or start, up to 65,535
   pub answers :
       (image : List ℕ) (old fresh c : Chip) (steps : List Step) (answer : ℕ) → Called old (step (start image) 0 [] fresh) → Run fresh steps c → Asked c answer →

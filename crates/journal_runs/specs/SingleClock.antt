@@ -6,8 +6,11 @@ use Rattle.machine.specs.Refusals.{advance}
 use Rattle.state.specs.View.{view}
 use Rattle.state.specs.declared.Chip.{Chip}
 use Rattle.journal_runs.specs.Run.{Step, step, calls_of, Called, Run}
+use Rattle.journal_runs.specs.Promised as contracts
 
-pub record ProgramSingleClock : Type 0 where
+pub record ProgramSingleClock : Type 2 where
+  -- what a call rests on is what its function's contract says, whole
+  pub promised : contracts.AllPromised
   -- An advance by a sum answers what the second of two does, each by one part, and leaves the same machine.
   pub sums :
       (a b first second answer : ℕ) (c between last whole : Chip) → Called c (step (advance a) first [] between) →

@@ -24,26 +24,17 @@ pub record Turned (f : Machine → Machine) (before after : Chip) : Type 0 where
   pub sizes : Sizes after
   pub fields : fields_formed before ≡ true → fields_formed after ≡ true
 
--- `before` and `after` put the arrays that were lent, as they were and as they are, into any chip. A contract doesn't see how long a lent array is, so this
--- takes it from the caller, and `Turned` says it of the next chip too.
-abbrev pub Turns : (Machine → Machine) → (Chip → Chip) → (Chip → Chip) → Type 0
-Turns f before after = (c : Chip) → Sizes (before c) → Turned f (before c) (after c)
-
--- The same of a function that is lent all eight arrays.
-abbrev pub TurnsAll : (Machine → Machine) → Chip → Chip → Type 0
-TurnsAll f before after = Sizes before → Turned f before after
+-- A contract doesn't see how long an array of a lent chip is, so this takes it from the caller, and `Turned` says it of the next chip too.
+abbrev pub Turns : (Machine → Machine) → Chip → Chip → Type 0
+Turns f before after = Sizes before → Turned f before after
 
 -- A function that turns the machine, and answers how many bytes were lost on the way, which `lost` gives of the machine before.
-abbrev pub TurnsLosing : (Machine → Machine) → (Machine → ℕ) → (Chip → Chip) → (Chip → Chip) → ℕ → Type 0
-TurnsLosing f lost before after r = (c : Chip) → Sizes (before c) → Turned f (before c) (after c) × (r ≡ lost (view (before c)))
-
--- The same of a function that is lent all eight arrays.
-abbrev pub TurnsAllLosing : (Machine → Machine) → (Machine → ℕ) → Chip → Chip → ℕ → Type 0
-TurnsAllLosing f lost before after r = Sizes before → Turned f before after × (r ≡ lost (view before))
+abbrev pub TurnsLosing : (Machine → Machine) → (Machine → ℕ) → Chip → Chip → ℕ → Type 0
+TurnsLosing f lost before after r = Sizes before → Turned f before after × (r ≡ lost (view before))
 
 -- A function that reads: its answer is what a definition gives of the machine.
-abbrev pub Reads : {A : Type 0} → (Machine → A) → (Chip → Chip) → A → Type 0
-Reads f lent r = (c : Chip) → r ≡ f (view (lent c))
+abbrev pub Reads : {A : Type 0} → (Machine → A) → Chip → A → Type 0
+Reads f c r = r ≡ f (view c)
 
 -- How many bytes the FIFO holds, from its positions, which are bytes.
 pub record Counts (read write count : ℕ) : Type 0 where

@@ -6,13 +6,16 @@
 #![tactic(auto)]
 
 ghost use Rattle.std.specs.Prelude.{◌≡◌, ◌+◌, ◌*◌, ◌^◌};
-ghost use Rattle.state.specs.View.{with_state, raised, marked, unmarked};
-ghost use Rattle.state.specs.Lent.{clocks_state};
+ghost use Rattle.state.specs.View.{raised, marked, unmarked};
 ghost use Rattle.state.specs.Turns.{Turns, Reads, Counts, Holds, ControlIs};
 ghost use Rattle.machine.specs.Commands.{programs as commands_programs, ended as commands_ended};
 ghost use Rattle.machine.specs.Frames.{receiving, frame_waits as frames_frame_waits};
 ghost use Rattle.machine.specs.Events.{lost as events_lost};
 ghost use Rattle.state.specs.Meets.{coded};
+
+mod answers;
+
+pub use answers::{Byte, Coded, Frame, Lost, Refusal};
 
 // A chip. Elements that no name below stands for are kept for later fields; a start leaves them 0.
 #[repr(C)]
@@ -90,25 +93,6 @@ fn distance(read: u8, write: u8) -> u8
     std::num::wrapping_sub_u8(write, read)
 }
 
-// How many bytes the FIFO holds.
-pub fn held(state: &[u8; 24]) -> u8
-    ensures { Holds state.now result }
-{
-    distance(state[READ], state[WRITE])
-}
-
-// A programming is there, running or standing still: WriteE2 is active, with its address or without, and clocks are left.
-pub fn programs(clocks: &[u32; 2], state: &[u8; 24]) -> bool
-    ensures { let lent = clocks_state clocks.now state.now in
-        Reads (λ m. commands_programs m.command) lent result }
-{
-    if clocks[LEFT] == 0 {
-        return false;
-    }
-    let stage = state[STAGE];
-    (stage == 0x01) | (stage == 0x41)
-}
-
 // The numbers of the two power modes as one word, StandBy's below PowerDown's. That they have 16 bits is known of parameters by value, and not of elements
 // that are loaded.
 pub fn modes_word(low: u16, high: u16) -> u32
@@ -133,64 +117,82 @@ pub fn control_byte(standby: bool, powerdown: bool) -> u8
     0
 }
 
-// A frame waits to be taken: Transmit is active, or a Transceive that sends, and a byte is held.
-pub fn frame_waits(state: &[u8; 24]) -> bool
-    ensures { Reads frames_frame_waits (with_state state.now) result }
-{
-    let stage = state[STAGE];
-    let sends = (stage == 0x5A) | (stage == 0x5E);
-    sends & (held(state) != 0)
-}
-
-// The chip receives: Receive, or Transceive after its frame was taken.
-pub fn receives(state: &[u8; 24]) -> bool
-    ensures { Reads (λ m. receiving m.command) (with_state state.now) result }
-{
-    let stage = state[STAGE];
-    (stage == 0x96) | (stage == 0x9E)
-}
-
-// Requests of a mask's bits 5-0 are set in InterruptRq. The byte is stored only where one is new: a store delays the next load of a word that holds it.
-pub fn requested(state: &mut [u8; 24], mask: u8)
-    ensures { Turns (raised mask) (with_state state.old) (with_state state.new) }
-{
-    let requests = state[REQUESTS];
-    let next = requests | mask % 64;
-    if next != requests {
-        state[REQUESTS] = next;
-    }
-}
-
-// Flags of a mask are set in ErrorFlag, but for bits that always read 0.
-pub fn failed(state: &mut [u8; 24], mask: u8)
-    ensures { Turns (marked mask) (with_state state.old) (with_state state.new) }
-{
-    state[ERRORS] = state[ERRORS] | (mask & 0x7A);
-}
-
-// Flags of a mask are cleared in ErrorFlag. The byte is stored only where one is set.
-pub fn cleared(state: &mut [u8; 24], mask: u8)
-    ensures { Turns (unmarked mask) (with_state state.old) (with_state state.new) }
-{
-    if state[ERRORS] & mask != 0 {
-        state[ERRORS] = state[ERRORS] & !mask;
-    }
-}
-
-// The command ends: Idle, which programs nothing, and IdleIRq.
-pub fn ended(clocks: &mut [u32; 2], state: &mut [u8; 24])
-    ensures { let before = clocks_state clocks.old state.old in
-        let after = clocks_state clocks.new state.new in
-        Turns commands_ended before after }
-{
-    clocks[LEFT] = 0;
-    state[STAGE] = 0x00;
-    requested(state, 0x04);
-}
-
 // What a call answers that lost so many bytes: their number in bits 31-24.
 pub fn losing(lost: u8) -> u32
     ensures { result ≡ coded (events_lost lost) }
 {
     0x100_0000 * (lost as u32)
+}
+
+impl Chip {
+    // How many bytes the FIFO holds.
+    pub fn held(&self) -> u8
+        ensures { Holds self.now.state result }
+    {
+        distance(self.state[READ], self.state[WRITE])
+    }
+
+    // A programming is there, running or standing still: WriteE2 is active, with its address or without, and clocks are left.
+    pub fn programs(&self) -> bool
+        ensures { Reads (λ m. commands_programs m.command) self.now result }
+    {
+        if self.clocks[LEFT] == 0 {
+            return false;
+        }
+        let stage = self.state[STAGE];
+        (stage == 0x01) | (stage == 0x41)
+    }
+
+    // A frame waits to be taken: Transmit is active, or a Transceive that sends, and a byte is held.
+    pub fn frame_waits(&self) -> bool
+        ensures { Reads frames_frame_waits self.now result }
+    {
+        let stage = self.state[STAGE];
+        let sends = (stage == 0x5A) | (stage == 0x5E);
+        sends & (self.held() != 0)
+    }
+
+    // The chip receives: Receive, or Transceive after its frame was taken.
+    pub fn receives(&self) -> bool
+        ensures { Reads (λ m. receiving m.command) self.now result }
+    {
+        let stage = self.state[STAGE];
+        (stage == 0x96) | (stage == 0x9E)
+    }
+
+    // Requests of a mask's bits 5-0 are set in InterruptRq. The byte is stored only where one is new: a store delays the next load of a word that holds it.
+    pub fn requested(&mut self, mask: u8)
+        ensures { Turns (raised mask) self.old self.new }
+    {
+        let requests = self.state[REQUESTS];
+        let next = requests | mask % 64;
+        if next != requests {
+            self.state[REQUESTS] = next;
+        }
+    }
+
+    // Flags of a mask are set in ErrorFlag, but for bits that always read 0.
+    pub fn failed(&mut self, mask: u8)
+        ensures { Turns (marked mask) self.old self.new }
+    {
+        self.state[ERRORS] = self.state[ERRORS] | (mask & 0x7A);
+    }
+
+    // Flags of a mask are cleared in ErrorFlag. The byte is stored only where one is set.
+    pub fn cleared(&mut self, mask: u8)
+        ensures { Turns (unmarked mask) self.old self.new }
+    {
+        if self.state[ERRORS] & mask != 0 {
+            self.state[ERRORS] = self.state[ERRORS] & !mask;
+        }
+    }
+
+    // The command ends: Idle, which programs nothing, and IdleIRq.
+    pub fn ended(&mut self)
+        ensures { Turns commands_ended self.old self.new }
+    {
+        self.clocks[LEFT] = 0;
+        self.state[STAGE] = 0x00;
+        self.requested(0x04);
+    }
 }

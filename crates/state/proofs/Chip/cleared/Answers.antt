@@ -1,0 +1,23 @@
+-- `Chip::cleared` meets its contract, by whether a flag of the mask is set. Assumes nothing.
+use Rattle.std.proofs.Common.{refl, ◌∙◌, arith, lit<}
+use Rattle.state.specs.View.{at, view, view_of, unmarked}
+use Rattle.state.proofs.FlagLaws.{errors_unmarked, none_unmarked, errors_and}
+use Rattle.state.proofs.StoreLaws.{set_byte, own_formed}
+use Rattle.state.proofs.TurnLaws.{stays, becomes}
+use Rattle.state.proofs.Chip.cleared.Goals as goal
+
+pub returns-then-self-mask-ne0 : goal.returns-then-self-mask-ne0
+unfolding view_of
+returns-then-self-mask-ne0 c sizes =
+    let old = c.args.self.now in
+    let l = old.state in
+    set_byte (unmarked c.args.mask) l 7 _ old (lit< tt) refl sizes (errors_unmarked (at l 7) c.args.mask (view old) (omega arith) refl)
+    (λ bytes. errors_and (at l 7) _ (own_formed (at l) 12 7 (lit< tt) bytes))
+
+pub returns-else-self-mask-ne0 : goal.returns-else-self-mask-ne0
+unfolding view_of
+returns-else-self-mask-ne0 c sizes =
+    let old = c.args.self.now in
+    let l = old.state in
+    becomes (unmarked c.args.mask) (stays old sizes)
+    (none_unmarked (at l 7) c.args.mask (view old) (omega arith) c.if-self-mask-ne0.false ∙ errors_unmarked (at l 7) c.args.mask (view old) (omega arith) refl)

@@ -5,9 +5,9 @@ use lib.Bits.{bit_and}
 use Rattle.machine.specs.State.{Machine, with_held}
 use Rattle.machine.specs.Fifo.{first_of, rest_of, one_lost, offered, lost_at, alerted}
 use Rattle.machine.proofs.Cases.{either}
-use Rattle.state.specs.View.{at, view, view_of, held_count, held_of, raised}
-use Rattle.state.specs.Lent.{state_slots}
-use Rattle.state.specs.Turns.{Counts, Turns}
+use Rattle.state.specs.View.{at, view, view_of, held_count, held_of, with_state, with_slots, raised}
+use Rattle.state.specs.Turns.{Counts, Holds, Turns}
+use Rattle.state.specs.declared.Chip.{Chip}
 use Rattle.state.proofs.RingLaws.{held_at, count_length, ring_stored}
 use Rattle.state.proofs.StoreLaws.{at_set, stored, keeps_byte}
 use Rattle.state.proofs.TurnLaws.{sized_slots, sized_state}
@@ -61,13 +61,14 @@ first_slot {read} {write} p some slots =
     sym (held_at slots read (held_count read write) 0 (omega (arith, p.counted)) ∙ ap (λ (k : ℕ). get_or slots (k % 64) 0) (omega arith)) ∙ first_at (held_of read write slots)
 
 -- A byte is stored in the slot of the write position, and this moves on.
-pub stored_byte : (l slots : List ℕ) {n : ℕ} → Counts (at l 13) (at l 14) n → n < 64 → (b x : ℕ) → x ≡ (at l 14 + 1) % 256 →
-    Turns (offered b) (state_slots l slots) (state_slots (set l 14 x) (set slots (at l 14 % 64) b))
+pub stored_byte : (old : Chip) {n : ℕ} → Holds old.state n → n < 64 → (b x : ℕ) → x ≡ (at old.state 14 + 1) % 256 →
+    Turns (offered b) old (with_state (set old.state 14 x) (with_slots (set old.slots (at old.state 14 % 64) b) old))
 unfolding view_of
-stored_byte l slots p room b x moved c sizes =
-    let old = state_slots l slots c in
+stored_byte old p room b x moved sizes =
+    let l = old.state in
+    let slots = old.slots in
     let filled = set slots (at l 14 % 64) b in
-    stored (state_slots (set l 14 x) filled c) refl refl (at_set l 14 x (omega (arith, sizes.state_count))) (offered b) old
+    stored (with_state (set l 14 x) (with_slots filled old)) refl refl (at_set l 14 x (omega (arith, sizes.state_count))) (offered b) old
     (sized_state (sized_slots sizes filled (length-set slots (at l 14 % 64) b ∙ sizes.slot_count)) (set l 14 x) (length-set l 14 x ∙ sizes.state_count))
     (ap (λ (h : List ℕ). with_held h (view old)) (ring_stored p slots b x room sizes.slot_count moved) ∙ sym (offer_stored b (view old) (omega (arith, count_length p slots))))
     (keeps_byte old 14 x refl (λ bytes. refl))

@@ -8,9 +8,10 @@ use Rattle.state_fifo.proofs.alerts_of.Goals as goal
 pub returns : goal.returns
 unfolding view_of
 returns c =
-    let s = c.args.state.now in record {
-      is = λ chip.
-          c.alerts.ensures.is ∙ ap (λ (n : ℕ). alert_bits n (c.fifo_level.result % 64)) (count_length c.held.ensures chip.slots)
-          ∙ ap (λ (n : ℕ). alert_bits (length (held_of (at s 13) (at s 14) chip.slots)) (n % 64)) c.fifo_level.ensures;
+    let old = c.args.chip.now in
+    let s = old.state in record {
+      is =
+          c.alerts.ensures.is ∙ ap (λ (n : ℕ). alert_bits n (c.fifo_level.result % 64)) (count_length c.held.ensures old.slots)
+          ∙ ap (λ (n : ℕ). alert_bits (length (held_of (at s 13) (at s 14) old.slots)) (n % 64)) c.fifo_level.ensures;
       small = c.alerts.ensures.small;
     }

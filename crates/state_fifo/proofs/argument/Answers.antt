@@ -7,17 +7,17 @@ use Rattle.state_fifo.proofs.argument.Goals as goal
 
 pub returns-then-k-held : goal.returns-then-k-held
 unfolding view_of
-returns-then-k-held c chip =
+returns-then-k-held c =
     let start = c.before.before.before.before.before in
     let a = start.args in
+    let old = a.chip.now in
     let p = c.held.ensures in
-    let read = at a.state.now 13 in
+    let read = at old.state 13 in
     let slot : c.wrapping_add_u8.result % 64 ≡ (read + a.k) % 64 = omega (arith, c.wrapping_add_u8.ensures.value) in
-    ap (λ (i : ℕ). get_or a.slots.now i 0) slot ∙ sym (held_at a.slots.now read (held_count read (at a.state.now 14)) a.k (omega (arith, p.counted)))
+    ap (λ (i : ℕ). get_or old.slots i 0) slot ∙ sym (held_at old.slots read (held_count read (at old.state 14)) a.k (omega (arith, p.counted)))
 
 pub returns : goal.returns
 unfolding view_of
-returns c chip =
-    let a = c.args in
-    let p = c.held.ensures in
-    sym (get_or-eq_default (held_of (at a.state.now 13) (at a.state.now 14) a.slots.now) 0 (rw (sym (count_length p a.slots.now)) (omega arith)))
+returns c =
+    let old = c.args.chip.now in
+    sym (get_or-eq_default (held_of (at old.state 13) (at old.state 14) old.slots) 0 (rw (sym (count_length c.held.ensures old.slots)) (omega arith)))

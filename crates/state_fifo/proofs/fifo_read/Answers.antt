@@ -1,9 +1,8 @@
 -- `state_fifo::fifo_read` meets its contract: the first byte leaves, and the alerts are those over that. Assumes nothing.
-use Rattle.std.proofs.Common.{ℕ, ◌-◌, ◌<◌, List, set, sym, refl, ap, ◌∙◌, arith, lit<}
+use Rattle.std.proofs.Common.{ℕ, ◌-◌, ◌<◌, List, sym, refl, ap, ◌∙◌, arith, lit<}
 use Rattle.machine.specs.State.{Machine, with_held}
 use Rattle.machine.specs.Fifo.{rest_of, alerted}
 use Rattle.state.specs.View.{at, held_of, view, view_of}
-use Rattle.state.specs.Lent.{state_registers_slots}
 use Rattle.state.proofs.RingLaws.{count_length, ring_taken}
 use Rattle.state.proofs.StoreLaws.{set_byte}
 use Rattle.state.proofs.TurnLaws.{stays, then, becomes}
@@ -14,13 +13,11 @@ use Rattle.state_fifo.proofs.fifo_read.Goals as goal
 pub returns-then-count-eq0 : goal.returns-then-count-eq0
 unfolding view_of
 returns-then-count-eq0 c =
-    let a = c.args in
-    let s = a.state.now in
-    let held = held_of (at s 13) (at s 14) a.slots.now in
-    let empty = sym (count_length c.held-count.ensures a.slots.now) ∙ c.if-count-eq0.true in record {
-      reads = λ chip. none_first held empty;
-      turns = λ chip sizes.
-          let old = state_registers_slots s a.registers.now a.slots.now chip in
+    let old = c.args.chip.now in
+    let held = held_of (at old.state 13) (at old.state 14) old.slots in
+    let empty = sym (count_length c.held-count.ensures old.slots) ∙ c.if-count-eq0.true in record {
+      reads = none_first held empty;
+      turns = λ sizes.
           becomes (λ m. alerted m (with_held (rest_of m.held) m)) (stays old sizes)
           (sym (alerted_same (view old)) ∙ ap (λ (l : List ℕ). alerted (view old) (with_held l (view old))) (sym (none_rest held empty)));
     }
@@ -28,26 +25,24 @@ returns-then-count-eq0 c =
 pub returns : goal.returns
 unfolding view_of
 returns c =
-    let second = c.before.before in
+    let second = c.before in
     let first = second.before in
     let moved = first.before.before in
     let level = moved.fifo_level-level in
     let past = moved.before.before.before in
-    let a = past.args in
-    let l = a.state.now in
+    let old = past.args.chip.now in
+    let l = old.state in
     let p = past.held-count.ensures in
     let n = past.held-count.result in
     let some : 0 < n = omega (arith, past.if-count-eq0.false) in
     let x = moved.wrapping_add_u8.result in
-    let held = held_of (at l 13) (at l 14) a.slots.now in
+    let held = held_of (at l 13) (at l 14) old.slots in
     let rest : Machine → Machine = λ m. with_held (rest_of m.held) m in record {
-      reads = λ chip. first_slot p some a.slots.now;
-      turns = λ chip sizes.
-          let old = state_registers_slots l a.registers.now a.slots.now chip in
-          let next = state_registers_slots (set l 13 x) a.registers.now a.slots.now chip in
+      reads = first_slot p some old.slots;
+      turns = λ sizes.
           let leaves = set_byte rest l 13 x old (lit< tt) refl sizes
-          (ap (λ (h : List ℕ). with_held h (view old)) (ring_taken p a.slots.now 1 x (omega arith) moved.wrapping_add_u8.ensures.value ∙ drop_one held)) (λ bytes. refl) in
-          becomes (λ m. alerted m (rest m)) (then leaves (c.requested.ensures next leaves.sizes))
-          (alerts_over (view old) (rest (view old)) n (n - 1) level.result first.alerts.result second.alerts-2.result level.ensures refl (count_length p a.slots.now)
-          (ap (λ (k : ℕ). k - 1) (count_length p a.slots.now) ∙ sym (length_rest held)) first.alerts.ensures.is second.alerts-2.ensures.is);
+          (ap (λ (h : List ℕ). with_held h (view old)) (ring_taken p old.slots 1 x (omega arith) moved.wrapping_add_u8.ensures.value ∙ drop_one held)) (λ bytes. refl) in
+          becomes (λ m. alerted m (rest m)) (then leaves (c.requested.ensures leaves.sizes))
+          (alerts_over (view old) (rest (view old)) n (n - 1) level.result first.alerts.result second.alerts-2.result level.ensures refl (count_length p old.slots)
+          (ap (λ (k : ℕ). k - 1) (count_length p old.slots) ∙ sym (length_rest held)) first.alerts.ensures.is second.alerts-2.ensures.is);
     }

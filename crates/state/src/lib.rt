@@ -6,7 +6,7 @@
 #![tactic(auto)]
 
 ghost use Rattle.std.specs.Prelude.{◌≡◌, ◌+◌, ◌*◌, ◌^◌};
-ghost use Rattle.state.specs.View.{raised, marked, unmarked};
+ghost use Rattle.state.specs.View.{raised, marked, unmarked, with_clocks, with_state};
 ghost use Rattle.state.specs.Turns.{Turns, Reads, Counts, Holds, ControlIs};
 ghost use Rattle.machine.specs.Commands.{programs as commands_programs, ended as commands_ended};
 ghost use Rattle.machine.specs.Frames.{receiving, frame_waits as frames_frame_waits};
@@ -188,7 +188,8 @@ impl Chip {
 
     // Requests of a mask's bits 5-0 are set in InterruptRq. The byte is stored only where one is new: a store delays the next load of a word that holds it.
     pub fn requested(&mut self, mask: u8)
-        ensures { Turns (raised mask) self.old self.new }
+        ensures turns { Turns (raised mask) self.old self.new }
+        ensures rest { self.new ≡ with_state self.new.state self.old }
     {
         let requests = self.state[REQUESTS];
         let next = requests | mask % 64;
@@ -199,14 +200,16 @@ impl Chip {
 
     // Flags of a mask are set in ErrorFlag, but for bits that always read 0.
     pub fn failed(&mut self, mask: u8)
-        ensures { Turns (marked mask) self.old self.new }
+        ensures turns { Turns (marked mask) self.old self.new }
+        ensures rest { self.new ≡ with_state self.new.state self.old }
     {
         self.state[ERRORS] = self.state[ERRORS] | (mask & 0x7A);
     }
 
     // Flags of a mask are cleared in ErrorFlag. The byte is stored only where one is set.
     pub fn cleared(&mut self, mask: u8)
-        ensures { Turns (unmarked mask) self.old self.new }
+        ensures turns { Turns (unmarked mask) self.old self.new }
+        ensures rest { self.new ≡ with_state self.new.state self.old }
     {
         if self.state[ERRORS] & mask != 0 {
             self.state[ERRORS] = self.state[ERRORS] & !mask;
@@ -215,7 +218,8 @@ impl Chip {
 
     // The command ends: Idle, which programs nothing, and IdleIRq.
     pub fn ended(&mut self)
-        ensures { Turns commands_ended self.old self.new }
+        ensures turns { Turns commands_ended self.old self.new }
+        ensures rest { self.new ≡ with_clocks self.new.clocks (with_state self.new.state self.old) }
     {
         self.clocks[LEFT] = 0;
         self.state[STAGE] = IDLE;

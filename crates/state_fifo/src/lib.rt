@@ -8,6 +8,7 @@ ghost use Rattle.machine.specs.State.{with_held};
 ghost use Rattle.machine.specs.Fifo.{first_of, rest_of, one_lost, lost_at, lost_of, alerted, offered, offered_all};
 ghost use Rattle.machine.specs.Commands.{argument, taken};
 ghost use Rattle.machine.specs.Registers.{flag};
+ghost use Rattle.state.specs.View.{with_numbers, with_slots, with_state};
 ghost use Rattle.state.specs.Turns.{Turns, TurnsLosing, Reads};
 ghost use Rattle.state_fifo.specs.Alerts.{alert_bits, alerts_of, alerted_from};
 
@@ -26,14 +27,16 @@ pub fn argument(chip: &Chip, k: u8) -> u8
 
 // No byte is held.
 pub fn emptied(chip: &mut Chip)
-    ensures { Turns (with_held []) chip.old chip.new }
+    ensures turns { Turns (with_held []) chip.old chip.new }
+    ensures rest { chip.new ≡ with_state chip.new.state chip.old }
 {
     chip.state[READ] = chip.state[WRITE];
 }
 
 // The first `count` bytes leave, or all where fewer are held.
 pub fn taken(chip: &mut Chip, count: u8)
-    ensures { Turns (taken count) chip.old chip.new }
+    ensures turns { Turns (taken count) chip.old chip.new }
+    ensures rest { chip.new ≡ with_state chip.new.state chip.old }
 {
     if chip.held() <= count {
         emptied(chip);
@@ -51,7 +54,8 @@ fn one_more(sum: u16) -> u16
 
 // A byte is lost: FIFOOvfl is set, and the sum of lost bytes is one more.
 fn one_lost(chip: &mut Chip)
-    ensures { Turns one_lost chip.old chip.new }
+    ensures turns { Turns one_lost chip.old chip.new }
+    ensures rest { chip.new ≡ with_numbers chip.new.numbers (with_state chip.new.state chip.old) }
 {
     chip.failed(0x10);
     chip.numbers[LOST_SUM] = one_more(chip.numbers[LOST_SUM]);
@@ -61,6 +65,7 @@ fn one_lost(chip: &mut Chip)
 pub fn offered(chip: &mut Chip, byte: u8) -> u8
     ensures turns { TurnsLosing (offered byte) lost_at chip.old chip.new result }
     ensures small { result ≤ 1 }
+    ensures rest { chip.new ≡ with_numbers chip.new.numbers (with_state chip.new.state (with_slots chip.new.slots chip.old)) }
 {
     if chip.held() >= 64 {
         one_lost(chip);
@@ -77,6 +82,7 @@ pub fn offered(chip: &mut Chip, byte: u8) -> u8
 pub fn offered_all(chip: &mut Chip, bytes: &[u8]) -> usize
     ensures turns { TurnsLosing (offered_all bytes.now) (lost_of bytes.now) chip.old chip.new result }
     ensures small { result ≤ length bytes.now }
+    ensures rest { chip.new ≡ with_numbers chip.new.numbers (with_state chip.new.state (with_slots chip.new.slots chip.old)) }
 {
     let mut lost: usize = 0;
     for byte in bytes {
@@ -120,7 +126,8 @@ pub fn alerts_of(chip: &Chip) -> u8
 
 // An event is over: the requests for the alerts that are 1 now and were 0 before it.
 pub fn alerted(chip: &mut Chip, before: u8)
-    ensures { Turns (alerted_from before) chip.old chip.new }
+    ensures turns { Turns (alerted_from before) chip.old chip.new }
+    ensures rest { chip.new ≡ with_state chip.new.state chip.old }
 {
     chip.requested(alerts_of(chip) & !before);
 }
@@ -129,6 +136,7 @@ pub fn alerted(chip: &mut Chip, before: u8)
 pub fn fifo_read(chip: &mut Chip) -> u8
     ensures reads { Reads (λ m. first_of m.held) chip.old result }
     ensures turns { Turns (λ m. alerted m (with_held (rest_of m.held) m)) chip.old chip.new }
+    ensures rest { chip.new ≡ with_state chip.new.state chip.old }
 {
     let count = chip.held();
     if count == 0 {
@@ -144,7 +152,8 @@ pub fn fifo_read(chip: &mut Chip) -> u8
 
 // A write of FIFOData where the byte waits: it is stored, or lost, and the alerts are judged. Answers how many bytes were lost.
 pub fn fifo_written(chip: &mut Chip, byte: u8) -> u8
-    ensures { TurnsLosing (λ m. alerted m (offered byte m)) lost_at chip.old chip.new result }
+    ensures turns { TurnsLosing (λ m. alerted m (offered byte m)) lost_at chip.old chip.new result }
+    ensures rest { chip.new ≡ with_numbers chip.new.numbers (with_state chip.new.state (with_slots chip.new.slots chip.old)) }
 {
     let count = chip.held();
     if count >= 64 {

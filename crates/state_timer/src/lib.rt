@@ -7,14 +7,16 @@ ghost use Rattle.std.specs.Prelude.{◌%◌, ◌^◌, ◌≤◌, not, ◌&&◌, 
 ghost use Rattle.bits.specs.Bits.{bit_set};
 ghost use Rattle.machine.specs.State.{Timer, with_timer};
 ghost use Rattle.machine.specs.Timer.{timer_stopped as timer_timer_stopped, timer_started as timer_timer_started};
+ghost use Rattle.state.specs.View.{with_clocks, with_state};
 ghost use Rattle.state.specs.Turns.{Turns};
 
 use state::{Chip, PHASE, PRESCALER, RUNNING, VALUE};
 
 // The timer is running or stopped, at a value and a prescaler; its phase is 0.
 fn timer_set(chip: &mut Chip, running: bool, value: u8, prescaler: u8)
-    ensures { let timer : Timer = record { running = running; value = value; prescaler = prescaler; phase = 0 } in
+    ensures turns { let timer : Timer = record { running = running; value = value; prescaler = prescaler; phase = 0 } in
         Turns (with_timer timer) chip.old chip.new }
+    ensures rest { chip.new ≡ with_clocks chip.new.clocks (with_state chip.new.state chip.old) }
 {
     chip.clocks[PHASE] = 0;
     chip.state[RUNNING] = running as u8;
@@ -24,7 +26,8 @@ fn timer_set(chip: &mut Chip, running: bool, value: u8, prescaler: u8)
 
 // The timer stops, and its value stays.
 pub fn timer_stopped(chip: &mut Chip)
-    ensures { Turns timer_timer_stopped chip.old chip.new }
+    ensures turns { Turns timer_timer_stopped chip.old chip.new }
+    ensures rest { chip.new ≡ with_clocks chip.new.clocks (with_state chip.new.state chip.old) }
 {
     let value = chip.state[VALUE];
     timer_set(chip, false, value, 0);
@@ -32,7 +35,8 @@ pub fn timer_stopped(chip: &mut Chip)
 
 // TimerReload and TPreScaler are loaded; a reload of 0 and a prescaler above 21 stop the timer at 0.
 pub fn timer_started(chip: &mut Chip)
-    ensures { Turns timer_timer_started chip.old chip.new }
+    ensures turns { Turns timer_timer_started chip.old chip.new }
+    ensures rest { chip.new ≡ with_clocks chip.new.clocks (with_state chip.new.state chip.old) }
 {
     let reload = chip.registers[0x2C - 0x10];
     let prescaler = chip.registers[0x2A - 0x10] % 32;

@@ -6,9 +6,9 @@ use Rattle.state.proofs.RingLaws.{held_none}
 use Rattle.state.proofs.StoreLaws.{set_byte}
 use Rattle.state_fifo.proofs.emptied.Goals as goal
 
-pub returns : goal.returns
+pub returns-clause-turns : goal.returns-clause-turns
 unfolding view_of
-returns c sizes =
+returns-clause-turns c sizes =
     let old = c.args.chip.now in
     let l = old.state in
     set_byte (with_held []) l 13 (at l 14) old (lit< tt) refl sizes

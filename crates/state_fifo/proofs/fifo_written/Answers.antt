@@ -7,19 +7,19 @@ use Rattle.state.proofs.TurnLaws.{then, becomes}
 use Rattle.state_fifo.proofs.FifoLaws.{offer_lost, lost_quiet, none_lost, one_is_lost, stored_byte, stored_registers, stored_length, alerts_over}
 use Rattle.state_fifo.proofs.fifo_written.Goals as goal
 
-pub returns-then-count-ge64 : goal.returns-then-count-ge64
+pub returns-then-count-ge64-clause-turns : goal.returns-then-count-ge64-clause-turns
 unfolding view_of
-returns-then-count-ge64 c sizes =
+returns-then-count-ge64-clause-turns c sizes =
     let a = c.args in
     let old = a.chip.now in
     let full : 64 ≤ length (view old).held = omega (arith, count_length c.held-count.ensures old.slots) in (
-      becomes (λ m. alerted m (offered a.byte m)) (c.one_lost.ensures sizes) (lost_quiet (view old) ∙ ap (alerted (view old)) (offer_lost a.byte (view old) full)),
+      becomes (λ m. alerted m (offered a.byte m)) (c.one_lost.ensures.turns sizes) (lost_quiet (view old) ∙ ap (alerted (view old)) (offer_lost a.byte (view old) full)),
       one_is_lost (view old) full,
     )
 
-pub returns : goal.returns
+pub returns-clause-turns : goal.returns-clause-turns
 unfolding view_of
-returns c sizes =
+returns-clause-turns c sizes =
     let level = c.fifo_level-level in
     let a = c.args in
     let old = a.chip.now in
@@ -27,7 +27,7 @@ returns c sizes =
     let count = count_length p old.slots in
     let room : c.held-count.result < 64 = omega arith in
     let stores = stored_byte old p room a.byte c.wrapping_add_u8.result c.wrapping_add_u8.ensures.value sizes in (
-      becomes (λ m. alerted m (offered a.byte m)) (then stores (c.requested.ensures stores.sizes))
+      becomes (λ m. alerted m (offered a.byte m)) (then stores (c.requested.ensures.turns stores.sizes))
           (alerts_over (view old) (offered a.byte (view old)) c.held-count.result (c.held-count.result + 1) level.result c.alerts.result c.alerts-2.result
           level.ensures (stored_registers a.byte (view old)) count
           (stored_length a.byte (view old) c.held-count.result count room) c.alerts.ensures.is c.alerts-2.ensures.is),

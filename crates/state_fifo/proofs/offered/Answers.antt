@@ -13,7 +13,7 @@ returns-then-held-ge64-clause-turns c sizes =
     let byte = c.args.byte in
     let old = c.args.chip.now in
     let full : 64 ≤ length (view old).held = omega (arith, count_length c.held.ensures old.slots) in
-    (becomes (offered byte) (c.one_lost.ensures sizes) (offer_lost byte (view old) full), one_is_lost (view old) full)
+    (becomes (offered byte) (c.one_lost.ensures.turns sizes) (offer_lost byte (view old) full), one_is_lost (view old) full)
 
 pub returns-clause-turns : goal.returns-clause-turns
 unfolding view_of

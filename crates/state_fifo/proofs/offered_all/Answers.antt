@@ -1,14 +1,15 @@
 -- `state_fifo::offered_all` meets its contract: the bytes before an index have been offered. Assumes nothing.
 use Rattle.std.proofs.Common.{ℕ, ◌+◌, take, refl, ap, ◌∙◌, arith, rules}
 use Rattle.machine.specs.Fifo.{offered_all, lost_at, lost_of}
-use Rattle.state.specs.View.{view}
+use Rattle.state.specs.View.{view, with_numbers, with_state, with_slots}
+use Rattle.state.specs.declared.Chip.{Chip}
 use Rattle.state.proofs.TurnLaws.{stays, then, becomes}
 use Rattle.state_fifo.proofs.OfferLaws.{offered_more, offered_each, lost_more, lost_each}
 use Rattle.state_fifo.proofs.offered_all.Goals as goal
 
 pub loop-byte-init : goal.loop-byte-init
 unfolding offered_all lost_of
-loop-byte-init c = (search rules, λ sizes. (stays c.args.chip.now sizes, refl))
+loop-byte-init c = (search rules, λ sizes. (stays c.args.chip.now sizes, refl), refl)
 
 pub loop-byte-preserved : goal.loop-byte-preserved
 loop-byte-preserved c =
@@ -24,6 +25,8 @@ loop-byte-preserved c =
                 ∙ ap (λ (n : ℕ). lost_of (take i bytes) (view old) + n) (one ∙ ap lost_at first.machine)
                 ∙ lost_more bytes i (view old) c.loop-byte-test.true,
           ),
+      let next = c.offered.new.chip in
+          c.offered.ensures.rest ∙ ap (λ (d : Chip). with_numbers next.numbers (with_state next.state (with_slots next.slots d))) c.loop-byte.invariant.2,
     )
 
 pub returns-clause-turns : goal.returns-clause-turns

@@ -7,11 +7,11 @@ use Rattle.state.proofs.StoreLaws.{set_number}
 use Rattle.state.proofs.TurnLaws.{then, becomes}
 use Rattle.state_fifo.proofs.one_lost.Goals as goal
 
-pub returns : goal.returns
+pub returns-clause-turns : goal.returns-clause-turns
 unfolding view_of
-returns c sizes =
+returns-clause-turns c sizes =
     let old = c.args.chip.now in
     let next = c.one_more.result in
-    let first = c.failed.ensures sizes in
+    let first = c.failed.ensures.turns sizes in
     becomes one_lost (then first (set_number (with_lost_sum next) 2 next c.failed.new.self (lit< tt) refl first.sizes refl))
     (ap (λ (n : ℕ). with_lost_sum n (with_fifo_ovfl true (view old))) (c.one_more.ensures ∙ ap (λ (m : Machine). min 65535 (m.lost_sum + 1)) first.machine))

@@ -8,18 +8,18 @@ use Rattle.state.proofs.StoreLaws.{set_byte}
 use Rattle.state.proofs.TurnLaws.{becomes}
 use Rattle.state_fifo.proofs.taken.Goals as goal
 
-pub returns-then-held-count : goal.returns-then-held-count
+pub returns-then-held-count-clause-turns : goal.returns-then-held-count-clause-turns
 unfolding view_of
-returns-then-held-count c sizes =
+returns-then-held-count-clause-turns c sizes =
     let a = c.args in
     let old = a.chip.now in
     let held = held_of (at old.state 13) (at old.state 14) old.slots in
-    becomes (taken a.count) (c.emptied.ensures sizes)
+    becomes (taken a.count) (c.emptied.ensures.turns sizes)
     (ap (λ (h : List ℕ). with_held h (view old)) (sym (drop_of_length-le held {i = a.count} (rw (sym (count_length c.held.ensures old.slots)) (omega arith)))))
 
-pub returns : goal.returns
+pub returns-clause-turns : goal.returns-clause-turns
 unfolding view_of
-returns c sizes =
+returns-clause-turns c sizes =
     let a = c.args in
     let old = a.chip.now in
     set_byte (taken a.count) old.state 13 c.wrapping_add_u8.result old (lit< tt) refl sizes

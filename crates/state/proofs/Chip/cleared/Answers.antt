@@ -6,17 +6,17 @@ use Rattle.state.proofs.StoreLaws.{set_byte, own_formed}
 use Rattle.state.proofs.TurnLaws.{stays, becomes}
 use Rattle.state.proofs.Chip.cleared.Goals as goal
 
-pub returns-then-self-mask-ne0 : goal.returns-then-self-mask-ne0
+pub returns-then-self-mask-ne0-clause-turns : goal.returns-then-self-mask-ne0-clause-turns
 unfolding view_of
-returns-then-self-mask-ne0 c sizes =
+returns-then-self-mask-ne0-clause-turns c sizes =
     let old = c.args.self.now in
     let l = old.state in
     set_byte (unmarked c.args.mask) l 7 _ old (lit< tt) refl sizes (errors_unmarked (at l 7) c.args.mask (view old) (omega arith) refl)
     (λ bytes. errors_and (at l 7) _ (own_formed (at l) 12 7 (lit< tt) bytes))
 
-pub returns-else-self-mask-ne0 : goal.returns-else-self-mask-ne0
+pub returns-else-self-mask-ne0-clause-turns : goal.returns-else-self-mask-ne0-clause-turns
 unfolding view_of
-returns-else-self-mask-ne0 c sizes =
+returns-else-self-mask-ne0-clause-turns c sizes =
     let old = c.args.self.now in
     let l = old.state in
     becomes (unmarked c.args.mask) (stays old sizes)

@@ -7,9 +7,9 @@ use Rattle.state.proofs.StoreLaws.{at_set, stored, next_near, others_agree}
 use Rattle.state.proofs.TurnLaws.{then, sized_clocks, sized_state}
 use Rattle.state.proofs.Chip.ended.Goals as goal
 
-pub returns : goal.returns
+pub returns-clause-turns : goal.returns-clause-turns
 unfolding view_of
-returns c sizes =
+returns-clause-turns c sizes =
     let old = c.args.self.now in
     let clocks = set old.clocks 1 0 in
     let l = set old.state 12 0x00 in
@@ -18,4 +18,4 @@ returns c sizes =
     (with_command Idle) old
     (sized_clocks (sized_state sizes l (length-set old.state 12 0x00 ∙ sizes.state_count)) clocks (length-set old.clocks 1 0 ∙ sizes.clock_count))
     refl (λ formed. both (next_near old formed) (others_agree old formed)) in
-    then stops (c.requested.ensures stops.sizes)
+    then stops (c.requested.ensures.turns stops.sizes)

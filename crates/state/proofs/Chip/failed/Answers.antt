@@ -5,9 +5,9 @@ use Rattle.state.proofs.FlagLaws.{errors_marked, errors_or}
 use Rattle.state.proofs.StoreLaws.{set_byte, own_formed}
 use Rattle.state.proofs.Chip.failed.Goals as goal
 
-pub returns : goal.returns
+pub returns-clause-turns : goal.returns-clause-turns
 unfolding view_of
-returns c sizes =
+returns-clause-turns c sizes =
     let old = c.args.self.now in
     let mask = c.args.mask in
     set_byte (marked mask) old.state 7 _ old (lit< tt) refl sizes (errors_marked (at old.state 7) mask (view old) refl)

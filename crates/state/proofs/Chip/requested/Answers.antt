@@ -7,17 +7,17 @@ use Rattle.state.proofs.StoreLaws.{set_byte, own_formed}
 use Rattle.state.proofs.TurnLaws.{stays, becomes}
 use Rattle.state.proofs.Chip.requested.Goals as goal
 
-pub returns-then-next-requests : goal.returns-then-next-requests
+pub returns-then-next-requests-clause-turns : goal.returns-then-next-requests-clause-turns
 unfolding view_of
-returns-then-next-requests c sizes =
+returns-then-next-requests-clause-turns c sizes =
     let old = c.args.self.now in
     let l = old.state in
     set_byte (raised c.args.mask) l 6 _ old (lit< tt) refl sizes (requests_raised (at l 6) c.args.mask (view old) (omega arith) refl)
     (λ bytes. requests_or (at l 6) _ (omega arith) (own_formed (at l) 12 6 (lit< tt) bytes))
 
-pub returns-else-next-requests : goal.returns-else-next-requests
+pub returns-else-next-requests-clause-turns : goal.returns-else-next-requests-clause-turns
 unfolding view_of
-returns-else-next-requests c sizes =
+returns-else-next-requests-clause-turns c sizes =
     let old = c.args.self.now in
     let l = old.state in
     becomes (raised c.args.mask) (stays old sizes)

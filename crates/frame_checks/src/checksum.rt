@@ -28,13 +28,6 @@ fn trailing_crc(redundancy: u8, count: usize, last_bits: u8) -> usize
     width
 }
 
-// A byte as a number of 16 bits.
-fn wide(byte: u8) -> u16
-    ensures { result ≡ byte }
-{
-    byte as u16
-}
-
 // CRCErr is set: a checksum is checked (22h bit 3) and is wrong, or the frame is shorter than it or has last bits.
 pub fn crc_fails(chip: &Chip, bytes: &[u8], last_bits: u8) -> bool
     ensures { Reads (λ m. crc_fails m bytes.now last_bits) chip.now result }
@@ -53,11 +46,11 @@ pub fn crc_fails(chip: &Chip, bytes: &[u8], last_bits: u8) -> bool
     let end = count - width;
     let sum = crc::checksum(redundancy, lsb, msb, &bytes[..end]);
     if width == 1 {
-        return wide(bytes[end]) != sum;
+        return u16::from(bytes[end]) != sum;
     }
     let last = end + 1;
-    let low = wide(bytes[end]) == sum % 256;
-    let high = wide(bytes[last]) == sum / 256;
+    let low = u16::from(bytes[end]) == sum % 256;
+    let high = u16::from(bytes[last]) == sum / 256;
     !(low & high)
 }
 

@@ -37,7 +37,7 @@ returns-then-width-eq1 c =
     let width = c.trailing_crc-width.result in
     let sum = c.checksum-sum.result in
     let m = view a.chip.now in
-    ap (λ (v : ℕ). not (eqb v sum)) c.wide.ensures
+    ap (λ (v : ℕ). not (eqb v sum)) c.from.ensures
     ∙ one_compared m bytes a.last_bits width (c.trailing_crc-width.ensures.counts m bytes refl refl) (omega arith) (omega arith) (length bytes - width) sum (omega arith)
     c.checksum-sum.ensures (omega arith)
 
@@ -49,7 +49,7 @@ returns c =
     let width = c.trailing_crc-width.result in
     let sum = c.checksum-sum.result in
     let m = view a.chip.now in
-    ap (λ (v : ℕ). not (eqb v (sum % 256) && eqb c.wide-3.result (sum / 256))) c.wide-2.ensures
-    ∙ ap (λ (v : ℕ). not (eqb (get_or bytes (length bytes - width) 0) (sum % 256) && eqb v (sum / 256))) c.wide-3.ensures
+    ap (λ (v : ℕ). not (eqb v (sum % 256) && eqb c.from-3.result (sum / 256))) c.from-2.ensures
+    ∙ ap (λ (v : ℕ). not (eqb (get_or bytes (length bytes - width) 0) (sum % 256) && eqb v (sum / 256))) c.from-3.ensures
     ∙ two_compared m bytes a.last_bits width (c.trailing_crc-width.ensures.counts m bytes refl refl) (omega arith) (omega arith) (length bytes - width) sum (omega arith)
     c.checksum-sum.ensures (omega arith)

@@ -3,18 +3,17 @@
 #![tactic(auto)]
 
 ghost use Rattle.machine.specs.Memory.{address_of};
-ghost use Rattle.machine.specs.Commands.{argument as commands_argument};
-ghost use Rattle.state.specs.Lent.{state_slots};
+ghost use Rattle.machine.specs.Commands.{argument};
 ghost use Rattle.state.specs.Turns.{Reads};
 
+use state::Chip;
 use state_fifo::argument;
 
 // The address that the first two held bytes are, the low one first, mod 200h.
-pub fn address(state: &[u8; 24], slots: &[u8; 64]) -> u16
-    ensures { let lent = state_slots state.now slots.now in
-        Reads (λ m. address_of (commands_argument 0 m) (commands_argument 1 m)) lent result }
+pub fn address(chip: &Chip) -> u16
+    ensures { Reads (λ m. address_of (argument 0 m) (argument 1 m)) chip.now result }
 {
-    let low = argument(state, slots, 0) as u16;
-    let high = argument(state, slots, 1) as u16;
+    let low = argument(chip, 0) as u16;
+    let high = argument(chip, 1) as u16;
     (low + 256 * high) % 0x200
 }

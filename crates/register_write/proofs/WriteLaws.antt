@@ -2,7 +2,7 @@
 -- Assumes nothing.
 use Prim.Native.Nat.{ℕ, ◌-◌, ◌%◌, ◌<◌, ◌≤◌}
 use native.Mathlib.Omega.{arith}
-use mathlib.Core.Path.{◌≡◌, refl, sym, ap, ◌∙◌}
+use mathlib.Core.Path.{◌≡◌, refl, sym, ap, subst, ◌∙◌}
 use mathlib.Core.Bool.{Bool, true, false, cond, ◌&&◌, ◌||◌}
 use lib.Dec.{ltb, leb, eqb, lit<}
 use lib.ListN.{length, set, length-set}
@@ -33,12 +33,16 @@ pub quiet_write : {f : Machine → Machine} {a b : Chip} (r v : ℕ) → Turned 
     (f (view a)).held ≡ (view a).held → register_at (f (view a)) 0x29 ≡ register_at (view a) 0x29 → Turned (λ m. alerted m (other_written r v m)) a b
 quiet_write {f} {a} r v turn writes held level = becomes (λ m. alerted m (other_written r v m)) turn (quiet (view a) (f (view a)) held level ∙ ap (alerted (view a)) writes)
 
--- A turn where a flag is set, and none where it is not.
-pub where_set : {f : Machine → Machine} {a b : Chip} (flag : Bool) → flag ≡ true → Turned f a b → Turned (λ m. cond flag (f m) m) a b
-where_set {f} {a} flag is turn = becomes (λ m. cond flag (f m) m) turn (ap (λ (t : Bool). cond t (f (view a)) (view a)) (sym is))
+-- Where a flag is set there is a turn, and none where it is not: the two ways through an `if`, which join at a chip that is the one's end.
+pub where_set : {f : Machine → Machine} {a b d : Chip} (flag : Bool) → flag ≡ true → d ≡ b → Turned f a b → Turned (λ m. cond flag (f m) m) a d
+where_set {f} {a} flag is joined turn =
+    let g : Machine → Machine = λ m. cond flag (f m) m in
+    subst (Turned g a) (sym joined) (becomes g turn (ap (λ (t : Bool). cond t (f (view a)) (view a)) (sym is)))
 
-pub where_clear : (f : Machine → Machine) (flag : Bool) → flag ≡ false → (c : Chip) → Sizes c → Turned (λ m. cond flag (f m) m) c c
-where_clear f flag is c sizes = becomes (λ m. cond flag (f m) m) (stays c sizes) (ap (λ (t : Bool). cond t (f (view c)) (view c)) (sym is))
+pub where_clear : (f : Machine → Machine) {a d : Chip} (flag : Bool) → flag ≡ false → d ≡ a → Sizes a → Turned (λ m. cond flag (f m) m) a d
+where_clear f {a} flag is joined sizes =
+    let g : Machine → Machine = λ m. cond flag (f m) m in
+    subst (Turned g a) (sym joined) (becomes g (stays a sizes) (ap (λ (t : Bool). cond t (f (view a)) (view a)) (sym is)))
 
 -- The alerts are judged over a turn, from those before it.
 pub judged : {f : Machine → Machine} {a b d : Chip} (before : ℕ) → before ≡ alerts_of (view a) → Turned f a b → Turned (alerted_from before) b d → Turned (λ m. alerted m (f m)) a d

@@ -1,31 +1,35 @@
--- `register_write::control_written` meets its contract: its callees' turns in order. Assumes nothing.
-use Prim.Native.Nat.{ℕ, ◌%◌}
+-- `register_write::control_written` meets its contract: its steps in order, each by its bit. Assumes nothing.
+use Rattle.std.proofs.Common.{ℕ, ◌%◌, ◌≡◌, cond, eqb, ap, ◌∙◌, eq-eqb, ne_eqb}
 use native.Mathlib.Nat.{div-one}
-use mathlib.Core.Path.{◌≡◌, sym, ap, ◌∙◌}
-use mathlib.Core.Bool.{Bool, cond}
-use lib.Dec.{eqb}
 use Rattle.bits.specs.Bits.{bit_set}
 use Rattle.machine.specs.Fifo.{flushed, alerted}
+use Rattle.machine.specs.Timer.{timer_started, timer_stopped}
 use Rattle.machine.specs.Registers.{register_written}
-use Rattle.state.specs.View.{view, with_clocks, with_numbers, with_state}
-use Rattle.state.specs.Lent.{clocks_numbers_state_registers}
+use Rattle.state.specs.View.{view}
+use Rattle.state.specs.Turns.{Turned}
 use Rattle.state.proofs.TurnLaws.{then, becomes}
-use Rattle.register_write.proofs.WriteLaws.{controls, control_alerted}
+use Rattle.register_write.proofs.WriteLaws.{where_set, where_clear, control_alerted}
 use Rattle.register_write.proofs.control_written.Goals as goal
+use Rattle.register_write.proofs.control_written.Goals.{then-v-eq1, else-v-eq1, then-v-eq1-2, else-v-eq1-2, then-v-eq1-3, else-v-eq1-3}
 
 pub returns : goal.returns
-returns c chip sizes =
-    let a = c.args in
-    let v = a.v in
-    let old = clocks_numbers_state_registers a.clocks.now a.numbers.now a.state.now a.registers.now chip in
-    let first = c.flushed.ensures old sizes in
-    let emptied = with_numbers c.flushed.new.numbers (with_state c.flushed.new.state old) in
-    let second = c.stopped.ensures emptied first.sizes in
-    let still = with_clocks c.stopped.new.clocks (with_state c.stopped.new.state emptied) in
-    let third = c.started.ensures still second.sizes in
-    let running = with_clocks c.started.new.clocks (with_state c.started.new.state still) in
-    let fourth = c.modes_written.ensures running third.sizes in
-    let last = with_numbers c.modes_written.new.numbers (with_state c.modes_written.new.state running) in
-    let bit-0 : eqb (v % 2) 1 ≡ bit_set v 0 = ap (λ (n : ℕ). eqb (n % 2) 1) (sym (div-one v)) in
-    becomes (λ m. alerted m (register_written 0x09 v m)) (then {b = emptied} {d = last} first (then {b = still} {d = last} second (then {b = running} {d = last} third fourth)))
-    (ap (λ (t : Bool). controls (bit_set v 2) (bit_set v 1) v (cond t (alerted (view old) (flushed (view old))) (view old))) bit-0 ∙ control_alerted v (view old))
+returns c sizes =
+    let v = c.args.v in
+    let old = c.args.chip.now in
+    let bit-0 : bit_set v 0 ≡ eqb (v % 2) 1 = ap (λ (n : ℕ). eqb (n % 2) 1) (div-one v) in
+    let first : Turned (λ m. cond (bit_set v 0) (alerted m (flushed m)) m) old c.if-v-eq1.chip =
+    elim c.if-v-eq1.branch [
+      | then-v-eq1 w ↦ where_set (bit_set v 0) (bit-0 ∙ eq-eqb _ _ w.if-v-eq1.true) w.chip-is (w.flushed.ensures sizes)
+      | else-v-eq1 w ↦ where_clear (λ m. alerted m (flushed m)) (bit_set v 0) (bit-0 ∙ ne_eqb _ _ w.if-v-eq1.false) w.chip-is sizes
+    ] in
+    let second : Turned (λ m. cond (bit_set v 2) (timer_stopped m) m) c.if-v-eq1.chip c.if-v-eq1-2.chip =
+    elim c.if-v-eq1-2.branch [
+      | then-v-eq1-2 w ↦ where_set (bit_set v 2) (eq-eqb _ _ w.if-v-eq1-2.true) w.chip-is (w.timer_stopped.ensures first.sizes)
+      | else-v-eq1-2 w ↦ where_clear timer_stopped (bit_set v 2) (ne_eqb _ _ w.if-v-eq1-2.false) w.chip-is first.sizes
+    ] in
+    let third : Turned (λ m. cond (bit_set v 1) (timer_started m) m) c.if-v-eq1-2.chip c.if-v-eq1-3.chip =
+    elim c.if-v-eq1-3.branch [
+      | then-v-eq1-3 w ↦ where_set (bit_set v 1) (eq-eqb _ _ w.if-v-eq1-3.true) w.chip-is (w.timer_started.ensures second.sizes)
+      | else-v-eq1-3 w ↦ where_clear timer_started (bit_set v 1) (ne_eqb _ _ w.if-v-eq1-3.false) w.chip-is second.sizes
+    ] in
+    becomes (λ m. alerted m (register_written 0x09 v m)) (then first (then second (then third (c.modes_written.ensures third.sizes)))) (control_alerted v (view old))

@@ -8,7 +8,6 @@ use Rattle.bits.specs.Bits.{bit}
 use Rattle.machine.specs.State.{Interrupts, with_page, with_enables, with_requests, with_bit_framing}
 use Rattle.machine.specs.Registers.{register_written}
 use Rattle.state.specs.View.{at, interrupts_of, view, view_of}
-use Rattle.state.specs.Lent.{clocks_numbers_state_registers}
 use Rattle.state.proofs.StoreLaws.{set_byte, own_formed}
 use Rattle.state.proofs.TurnLaws.{stays}
 use Rattle.register_write.specs.Written.{other_written}
@@ -18,40 +17,40 @@ use Rattle.register_write.proofs.register_written.Goals as goal
 
 pub returns-then-register-eq0 : goal.returns-then-register-eq0
 unfolding view_of
-returns-then-register-eq0 c chip sizes =
+returns-then-register-eq0 c sizes =
     let a = c.args in
-    let old = clocks_numbers_state_registers a.clocks.now a.numbers.now a.state.now a.registers.now chip in
+    let old = a.chip.now in
     let x = 128 * bit a.v 7 + a.v % 8 in
-    quiet_write a.register a.v (set_byte (with_page x) a.state.now 0 x old (lit< tt) refl sizes refl (λ bytes. refl))
+    quiet_write a.register a.v (set_byte (with_page x) old.state 0 x old (lit< tt) refl sizes refl (λ bytes. refl))
     (page_written_lem a.register a.v (view old) c.if-register-eq0.true) refl refl
 
 pub returns-then-register-eq41 : goal.returns-then-register-eq41
-returns-then-register-eq41 c chip sizes =
+returns-then-register-eq41 c sizes =
     let a = c.args in
-    let old = clocks_numbers_state_registers a.clocks.now a.numbers.now a.state.now a.registers.now chip in
-    known_write a.register 0x29 a.v refl c.if-register-eq41.true (c.level_written.ensures old sizes)
+    let old = a.chip.now in
+    known_write a.register 0x29 a.v refl c.if-register-eq41.true (c.level_written.ensures sizes)
 
 pub returns-then-register-ge48 : goal.returns-then-register-ge48
-returns-then-register-ge48 c chip sizes =
+returns-then-register-ge48 c sizes =
     let a = c.args in
-    let old = clocks_numbers_state_registers a.clocks.now a.numbers.now a.state.now a.registers.now chip in
+    let old = a.chip.now in
     quiet_write a.register a.v (stays old sizes) (high_unused a.register a.v (view old) c.if-register-eq0.false c.if-register-ge48.true) refl refl
 
 pub returns-then-register-ge16 : goal.returns-then-register-ge16
 unfolding view_of
-returns-then-register-ge16 c chip sizes =
+returns-then-register-ge16 c sizes =
     let a = c.args in
-    let old = clocks_numbers_state_registers a.clocks.now a.numbers.now a.state.now a.registers.now chip in
+    let old = a.chip.now in
     quiet_write a.register a.v (register_stored (a.register - 0x10) a.v old sizes)
     (high_stored a.register a.v (view old) c.if-register-eq0.false c.if-register-ge16.true c.if-register-ge48.false) refl
-    (get_or-set_other a.registers.now (a.register - 0x10) 0x19 a.v 0 (λ e. c.if-register-eq41.false (omega (arith, e))))
+    (get_or-set_other old.registers (a.register - 0x10) 0x19 a.v 0 (λ e. c.if-register-eq41.false (omega (arith, e))))
 
 pub returns-in-6 : goal.returns-in-6
 unfolding view_of other_written register_written
-returns-in-6 c chip sizes =
+returns-in-6 c sizes =
     let a = c.args in
-    let l = a.state.now in
-    let old = clocks_numbers_state_registers a.clocks.now a.numbers.now a.state.now a.registers.now chip in
+    let old = a.chip.now in
+    let l = old.state in
     let byte = c.marked_bits.result in
     quiet_write a.register a.v
     (set_byte (with_enables (interrupts_of byte)) l 4 byte old (lit< tt) refl sizes refl (λ bytes. high_clear (at l 4) byte c.marked_bits.ensures.kept (own_formed (at l) 12 4 (lit< tt) bytes)))
@@ -59,31 +58,31 @@ returns-in-6 c chip sizes =
 
 pub returns-in-7 : goal.returns-in-7
 unfolding view_of other_written register_written
-returns-in-7 c chip sizes =
+returns-in-7 c sizes =
     let a = c.args in
-    let l = a.state.now in
-    let old = clocks_numbers_state_registers a.clocks.now a.numbers.now a.state.now a.registers.now chip in
+    let old = a.chip.now in
+    let l = old.state in
     let byte = c.marked_bits-in-7.result in
     quiet_write a.register a.v
     (set_byte (with_requests (interrupts_of byte)) l 6 byte old (lit< tt) refl sizes refl (λ bytes. high_clear (at l 6) byte c.marked_bits-in-7.ensures.kept (own_formed (at l) 12 6 (lit< tt) bytes)))
     (ap (λ (x : Interrupts). with_requests x (view old)) c.marked_bits-in-7.ensures.written ∙ write_as a.register 0x07 a.v (view old) c.in-7.is) refl refl
 
 pub returns-in-9 : goal.returns-in-9
-returns-in-9 c chip sizes =
+returns-in-9 c sizes =
     let a = c.args in
-    let old = clocks_numbers_state_registers a.clocks.now a.numbers.now a.state.now a.registers.now chip in
-    known_write a.register 0x09 a.v refl c.in-9.is (c.control_written.ensures old sizes)
+    let old = a.chip.now in
+    known_write a.register 0x09 a.v refl c.in-9.is (c.control_written.ensures sizes)
 
 pub returns-in-15 : goal.returns-in-15
 unfolding view_of other_written register_written
-returns-in-15 c chip sizes =
+returns-in-15 c sizes =
     let a = c.args in
-    let old = clocks_numbers_state_registers a.clocks.now a.numbers.now a.state.now a.registers.now chip in
-    quiet_write a.register a.v (set_byte (with_bit_framing a.v) a.state.now 16 a.v old (lit< tt) refl sizes refl (λ bytes. refl))
+    let old = a.chip.now in
+    quiet_write a.register a.v (set_byte (with_bit_framing a.v) old.state 16 a.v old (lit< tt) refl sizes refl (λ bytes. refl))
     (write_as a.register 0x0F a.v (view old) c.in-15.is) refl refl
 
 pub returns-in_default : goal.returns-in_default
-returns-in_default c chip sizes =
+returns-in_default c sizes =
     let a = c.args in
-    let old = clocks_numbers_state_registers a.clocks.now a.numbers.now a.state.now a.registers.now chip in
+    let old = a.chip.now in
     quiet_write a.register a.v (stays old sizes) (low_unused a.register a.v (view old) c.if-register-eq0.false (omega (arith, c.if-register-ge16.false)) c.in_default.in_default-own.rest) refl refl

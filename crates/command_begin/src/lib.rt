@@ -6,6 +6,7 @@
 ghost use Rattle.std.specs.Prelude.{◌≡◌, true, MatchOption};
 ghost use Rattle.machine.specs.State.{with_command};
 ghost use Rattle.machine.specs.Commands.{checksum_started, command_started, command_written};
+ghost use Rattle.state.specs.View.{with_clocks, with_numbers, with_state};
 ghost use Rattle.state.specs.Turns.{Turns};
 ghost use Rattle.command_begin.specs.Begins.{begins, begun, prepared, BeginsIn, IsUnknown};
 
@@ -17,7 +18,8 @@ use state::{
 // CalcCRC starts: it reads its mode and presets. The mode is stored only where it is another: it lies in a word that is judged at every host access, and a
 // store delays the load of that word.
 pub fn checksum_started(chip: &mut Chip)
-    ensures { Turns checksum_started chip.old chip.new }
+    ensures turns { Turns checksum_started chip.old chip.new }
+    ensures rest { chip.new ≡ with_numbers chip.new.numbers (with_state chip.new.state chip.old) }
 {
     let mode = chip.registers[0x22 - 0x10];
     let lsb = chip.registers[0x23 - 0x10];
@@ -43,7 +45,8 @@ fn first_stage(code: u8) -> Option<u8>
 
 // What a code's command does before it begins: LoadKeyE2 and LoadKey clear KeyErr, and CalcCRC reads its presets.
 fn prepared(chip: &mut Chip, code: u8)
-    ensures { Turns (prepared code) chip.old chip.new }
+    ensures turns { Turns (prepared code) chip.old chip.new }
+    ensures rest { chip.new ≡ with_numbers chip.new.numbers (with_state chip.new.state chip.old) }
 {
     match code {
         LOAD_KEY_E2 | LOAD_KEY => chip.cleared(0x40),
@@ -54,7 +57,8 @@ fn prepared(chip: &mut Chip, code: u8)
 
 // The command becomes that of a stage in which one begins; nothing is latched, and no programming clocks are left.
 fn switched(chip: &mut Chip, stage: u8)
-    ensures { begins stage ≡ true → Turns (with_command (begun stage)) chip.old chip.new }
+    ensures turns { begins stage ≡ true → Turns (with_command (begun stage)) chip.old chip.new }
+    ensures rest { chip.new ≡ with_clocks chip.new.clocks (with_state chip.new.state chip.old) }
 {
     chip.clocks[LEFT] = 0;
     chip.state[STAGE] = stage;
@@ -63,7 +67,8 @@ fn switched(chip: &mut Chip, stage: u8)
 
 // A code is started; an unknown one ends at once.
 fn begun(chip: &mut Chip, code: u8)
-    ensures { Turns (command_started code) chip.old chip.new }
+    ensures turns { Turns (command_started code) chip.old chip.new }
+    ensures rest { chip.new ≡ with_clocks chip.new.clocks (with_numbers chip.new.numbers (with_state chip.new.state chip.old)) }
 {
     match first_stage(code) {
         Some(stage) => {
@@ -76,7 +81,8 @@ fn begun(chip: &mut Chip, code: u8)
 
 // Command is written; the code is in bits 5-0. AccessErr, CRCErr and ParityErr are cleared.
 pub fn command_written(chip: &mut Chip, v: u8)
-    ensures { Turns (command_written v) chip.old chip.new }
+    ensures turns { Turns (command_written v) chip.old chip.new }
+    ensures rest { chip.new ≡ with_clocks chip.new.clocks (with_numbers chip.new.numbers (with_state chip.new.state chip.old)) }
 {
     if chip.programs() {
         return;

@@ -4,8 +4,10 @@
 
 #![tactic(auto)]
 
+ghost use Rattle.std.specs.Prelude.{◌≡◌};
 ghost use Rattle.machine.specs.State.{LoadConfig};
 ghost use Rattle.machine.specs.Commands.{configured_from, stepped_as};
+ghost use Rattle.state.specs.View.{with_clocks, with_registers, with_state};
 ghost use Rattle.state.specs.Turns.{Turns};
 
 use command_arguments::address;
@@ -15,7 +17,8 @@ use state_fifo::taken;
 
 // The registers are loaded from an address on; an address that is not 010h to 060h gives AccessErr.
 fn configured_from(chip: &mut Chip, address: u16)
-    ensures { Turns (configured_from address) chip.old chip.new }
+    ensures turns { Turns (configured_from address) chip.old chip.new }
+    ensures rest { chip.new ≡ with_state chip.new.state (with_registers chip.new.registers chip.old) }
 {
     if (0x10 <= address) & (address <= 0x60) {
         load_registers(chip, address);
@@ -26,7 +29,8 @@ fn configured_from(chip: &mut Chip, address: u16)
 
 // LoadConfig: an address.
 pub fn load_config(chip: &mut Chip)
-    ensures { Turns (stepped_as LoadConfig) chip.old chip.new }
+    ensures turns { Turns (stepped_as LoadConfig) chip.old chip.new }
+    ensures rest { chip.new ≡ with_clocks chip.new.clocks (with_state chip.new.state (with_registers chip.new.registers chip.old)) }
 {
     if chip.held() < 2 {
         return;

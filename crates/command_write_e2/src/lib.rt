@@ -7,7 +7,7 @@ ghost use Rattle.std.specs.Prelude.{◌%◌, ◌≤◌, ◌++◌, min, drop, len
 ghost use Rattle.machine.specs.State.{addressing, ready};
 ghost use Rattle.machine.specs.Memory.{room_in_block};
 ghost use Rattle.machine.specs.Commands.{write_stepped};
-ghost use Rattle.state.specs.View.{at, batch_start as view_batch_start, held_from, view};
+ghost use Rattle.state.specs.View.{at, batch_start as view_batch_start, held_from, view, with_clocks, with_latch, with_numbers, with_state};
 ghost use Rattle.state.specs.Turns.{Sizes, Turns};
 ghost use Rattle.command_write_e2.specs.Next.{next_after};
 
@@ -19,6 +19,7 @@ use state_fifo::taken;
 pub fn address_taken(chip: &mut Chip)
     ensures turns { Turns (write_stepped addressing) chip.old chip.new }
     ensures next { Sizes chip.old → at chip.new.numbers 1 ≡ next_after (at chip.old.numbers 1) (view chip.old) }
+    ensures rest { chip.new ≡ with_clocks chip.new.clocks (with_numbers chip.new.numbers (with_state chip.new.state chip.old)) }
 {
     if chip.held() < 2 {
         return;
@@ -49,8 +50,9 @@ fn latch_bytes(latch: &mut [u8; 16], slots: &[u8; 64], position: u8, count: u8)
 // WriteE2 has its address: held bytes are latched up to the end of the block, and their programming starts, which takes 5.8 ms; below 010h it ends with
 // AccessErr and takes none.
 pub fn bytes_latched(chip: &mut Chip)
-    ensures { let next = at chip.old.numbers 1 in
+    ensures turns { let next = at chip.old.numbers 1 in
         Turns (write_stepped (ready (next % 0x200))) chip.old chip.new }
+    ensures rest { chip.new ≡ with_clocks chip.new.clocks (with_numbers chip.new.numbers (with_state chip.new.state (with_latch chip.new.latch chip.old))) }
 {
     let waiting = chip.held();
     if waiting == 0 {

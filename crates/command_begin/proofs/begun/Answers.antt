@@ -4,7 +4,7 @@ use Rattle.state.specs.View.{view}
 use Rattle.state.proofs.TurnLaws.{then, becomes}
 use Rattle.command_begin.proofs.begun.Goals as goal
 
-pub returns-in-Some : goal.returns-in-Some
-returns-in-Some c sizes =
-    let first = c.prepared.ensures sizes in
-    becomes (command_started c.args.code) (then first (c.switched.ensures c.in-Some.ensures.begins_lem first.sizes)) (c.in-Some.ensures.starts (view c.args.chip.now))
+pub returns-in-Some-clause-turns : goal.returns-in-Some-clause-turns
+returns-in-Some-clause-turns c sizes =
+    let first = c.prepared.ensures.turns sizes in
+    becomes (command_started c.args.code) (then first (c.switched.ensures.turns c.in-Some.ensures.begins_lem first.sizes)) (c.in-Some.ensures.starts (view c.args.chip.now))

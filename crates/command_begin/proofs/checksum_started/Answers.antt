@@ -10,9 +10,9 @@ use Rattle.state.proofs.TurnLaws.{then, becomes}
 use Rattle.command_begin.proofs.BeginLaws.{with_register, with_mode, register_stored}
 use Rattle.command_begin.proofs.checksum_started.Goals as goal
 
-pub returns-then-chip-mode : goal.returns-then-chip-mode
+pub returns-then-chip-mode-clause-turns : goal.returns-then-chip-mode-clause-turns
 unfolding view_of
-returns-then-chip-mode c sizes =
+returns-then-chip-mode-clause-turns c sizes =
     let old = c.args.chip.now in
     let x = c.preset.result in
     let stores = register_stored x old sizes in
@@ -21,9 +21,9 @@ returns-then-chip-mode c sizes =
     (then stores (set_byte (with_mode mode) old.state 5 mode (with_numbers (set old.numbers 0 x) old) (lit< tt) refl stores.sizes refl (λ bytes. refl)))
     (ap (λ (n : ℕ). with_mode mode (with_register n (view old))) c.preset.ensures)
 
-pub returns-else-chip-mode : goal.returns-else-chip-mode
+pub returns-else-chip-mode-clause-turns : goal.returns-else-chip-mode-clause-turns
 unfolding view_of
-returns-else-chip-mode c sizes =
+returns-else-chip-mode-clause-turns c sizes =
     let old = c.args.chip.now in
     let x = c.preset.result in
     let mode = at old.registers (0x22 - 0x10) in

@@ -14,9 +14,9 @@ use Rattle.state.proofs.TurnLaws.{sized_clocks, sized_state}
 use Rattle.command_begin.specs.Begins.{begun}
 use Rattle.command_begin.proofs.switched.Goals as goal
 
-pub returns : goal.returns
+pub returns-clause-turns : goal.returns-clause-turns
 unfolding view_of
-returns c begin sizes =
+returns-clause-turns c begin sizes =
     let stage = c.args.stage in
     let old = c.args.chip.now in
     let parts = each (listed stage) _ begin in

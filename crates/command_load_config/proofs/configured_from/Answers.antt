@@ -10,17 +10,17 @@ use Rattle.state.proofs.TurnLaws.{becomes}
 use Rattle.command_load_config.proofs.ConfigLaws.{registers_loaded, config_loads, config_refuses}
 use Rattle.command_load_config.proofs.configured_from.Goals as goal
 
-pub returns-then-address : goal.returns-then-address
+pub returns-then-address-clause-turns : goal.returns-then-address-clause-turns
 unfolding view_of fields_formed
-returns-then-address c sizes =
+returns-then-address-clause-turns c sizes =
     let a = c.args in
     let old = a.chip.now in
     let m = view old in
     let inside = leb-true a.address 0x60 (each (leb 0x10 a.address) (leb a.address 0x60) c.if-address.true).1 in
     becomes (configured_from a.address) (registers_loaded old a.address (omega arith) c.load_registers.ensures sizes) (config_loads a.address m c.if-address.true)
 
-pub returns : goal.returns
+pub returns-clause-turns : goal.returns-clause-turns
 unfolding view_of
-returns c sizes =
+returns-clause-turns c sizes =
     let a = c.args in
-    becomes (configured_from a.address) (c.failed.ensures sizes) (config_refuses a.address (view a.chip.now) c.if-address.false)
+    becomes (configured_from a.address) (c.failed.ensures.turns sizes) (config_refuses a.address (view a.chip.now) c.if-address.false)

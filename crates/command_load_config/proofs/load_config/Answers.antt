@@ -9,18 +9,18 @@ use Rattle.state.proofs.TurnLaws.{stays, then, becomes}
 use Rattle.command_arguments.proofs.ArgumentLaws.{too_few, all_held}
 use Rattle.command_load_config.proofs.load_config.Goals as goal
 
-pub returns-then-held-lt2 : goal.returns-then-held-lt2
+pub returns-then-held-lt2-clause-turns : goal.returns-then-held-lt2-clause-turns
 unfolding view_of
-returns-then-held-lt2 c sizes =
+returns-then-held-lt2-clause-turns c sizes =
     let old = c.args.chip.now in
     becomes (stepped_as LoadConfig) (stays old sizes) (too_few 2 (view old) _ _ (count_length c.held.ensures old.slots) c.if-held-lt2.true)
 
-pub returns : goal.returns
+pub returns-clause-turns : goal.returns-clause-turns
 unfolding view_of
-returns c sizes =
+returns-clause-turns c sizes =
     let old = c.args.chip.now in
-    let leave = c.taken.ensures sizes in
-    let load = c.configured_from.ensures leave.sizes in
-    becomes (stepped_as LoadConfig) (then (then leave load) (c.ended.ensures load.sizes))
+    let leave = c.taken.ensures.turns sizes in
+    let load = c.configured_from.ensures.turns leave.sizes in
+    becomes (stepped_as LoadConfig) (then (then leave load) (c.ended.ensures.turns load.sizes))
     (ap (λ (n : ℕ). ended (configured_from n (taken 2 (view old)))) c.address-from.ensures
     ∙ all_held 2 (view old) _ _ (count_length c.held.ensures old.slots) c.if-held-lt2.false)

@@ -5,5 +5,5 @@ use Rattle.state.proofs.TurnLaws.{then}
 use Rattle.command_load_key.proofs.KeyLaws.{key_stored}
 use Rattle.command_load_key.proofs.key_emptied.Goals as goal
 
-pub returns : goal.returns
-returns c sizes = let empties = key_stored c.args.chip.now empty_key 0 refl refl sizes in then empties (c.failed.ensures empties.sizes)
+pub returns-clause-turns : goal.returns-clause-turns
+returns-clause-turns c sizes = let empties = key_stored c.args.chip.now empty_key 0 refl refl sizes in then empties (c.failed.ensures.turns empties.sizes)

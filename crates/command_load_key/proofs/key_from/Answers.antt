@@ -8,15 +8,15 @@ use Rattle.state.proofs.TurnLaws.{becomes}
 use Rattle.command_load_key.proofs.KeyLaws.{key_above, key_inside}
 use Rattle.command_load_key.proofs.key_from.Goals as goal
 
-pub returns-then-address-gt500 : goal.returns-then-address-gt500
-returns-then-address-gt500 c sizes =
+pub returns-then-address-gt500-clause-turns : goal.returns-then-address-gt500-clause-turns
+returns-then-address-gt500-clause-turns c sizes =
     let a = c.args in
-    becomes (key_from a.address) (c.key_emptied.ensures sizes) (key_above a.address (view a.chip.now) c.if-address-gt500.true)
+    becomes (key_from a.address) (c.key_emptied.ensures.turns sizes) (key_above a.address (view a.chip.now) c.if-address-gt500.true)
 
-pub returns : goal.returns
+pub returns-clause-turns : goal.returns-clause-turns
 unfolding view_of
-returns c sizes =
+returns-clause-turns c sizes =
     let a = c.args in
     let m = view a.chip.now in
-    becomes (key_from a.address) (c.key_judged.ensures sizes)
+    becomes (key_from a.address) (c.key_judged.ensures.turns sizes)
     (ap (λ (bs : List ℕ). key_judged bs m) (c.stored_key-bytes.ensures sizes.eeprom_count) ∙ key_inside a.address m c.if-address-gt500.false)

@@ -7,8 +7,8 @@ use Rattle.state.proofs.TurnLaws.{becomes}
 use Rattle.command_load_key.proofs.KeyLaws.{key_stored, judged_loaded}
 use Rattle.command_load_key.proofs.key_judged.Goals as goal
 
-pub returns-in-Some : goal.returns-in-Some
-returns-in-Some c sizes =
+pub returns-in-Some-clause-turns : goal.returns-in-Some-clause-turns
+returns-in-Some-clause-turns c sizes =
     let old = c.args.chip.now in
     let bytes = c.args.bytes in
     let some = c.in-Some in

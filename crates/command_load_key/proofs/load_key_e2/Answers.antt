@@ -8,17 +8,17 @@ use Rattle.command_arguments.proofs.ArgumentLaws.{too_few}
 use Rattle.command_load_key.proofs.KeyLaws.{step_from}
 use Rattle.command_load_key.proofs.load_key_e2.Goals as goal
 
-pub returns-then-held-lt2 : goal.returns-then-held-lt2
+pub returns-then-held-lt2-clause-turns : goal.returns-then-held-lt2-clause-turns
 unfolding view_of
-returns-then-held-lt2 c sizes =
+returns-then-held-lt2-clause-turns c sizes =
     let old = c.args.chip.now in
     becomes (stepped_as LoadKeyE2) (stays old sizes) (too_few 2 (view old) _ _ (count_length c.held.ensures old.slots) c.if-held-lt2.true)
 
-pub returns : goal.returns
+pub returns-clause-turns : goal.returns-clause-turns
 unfolding view_of
-returns c sizes =
+returns-clause-turns c sizes =
     let old = c.args.chip.now in
-    let leave = c.taken.ensures sizes in
-    let come = c.key_from.ensures leave.sizes in
-    becomes (stepped_as LoadKeyE2) (then (then leave come) (c.ended.ensures come.sizes))
+    let leave = c.taken.ensures.turns sizes in
+    let come = c.key_from.ensures.turns leave.sizes in
+    becomes (stepped_as LoadKeyE2) (then (then leave come) (c.ended.ensures.turns come.sizes))
     (step_from (view old) (count_length c.held.ensures old.slots) c.if-held-lt2.false _ c.address-from.ensures)

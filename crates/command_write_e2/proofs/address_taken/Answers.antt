@@ -1,4 +1,5 @@
 -- `command_write_e2::address_taken` meets its contract, by whether two bytes are held. Assumes nothing.
+use Rattle.std.proofs.Common.{refl, rules}
 use Prim.Native.Nat.{◌%◌}
 use native.Mathlib.Omega.{arith}
 use mathlib.Core.Path.{◌≡◌, ap, ◌∙◌}
@@ -20,6 +21,7 @@ returns-then-held-lt2 c =
     let count = count_length c.held.ensures old.slots in record {
       turns = λ sizes. becomes (write_stepped addressing) (stays old sizes) (too_few 2 (view old) _ _ count c.if-held-lt2.true);
       next = λ sizes. too_few 2 (view old) _ _ count c.if-held-lt2.true;
+      rest = refl;
     }
 
 pub returns : goal.returns
@@ -32,12 +34,13 @@ returns c =
     let near : x % 0x200 ≡ x = omega (arith, is) in
     let count = count_length c.held.ensures old.slots in record {
       turns = λ sizes.
-          let leaves = c.taken.ensures sizes in
+          let leaves = c.taken.ensures.turns sizes in
           let without = c.taken.new.chip in
           becomes (write_stepped addressing)
           (then leaves
           (write_stored without without.latch 0 x 0 (ready (address_of (argument 0 m) (argument 1 m))) leaves.sizes leaves.sizes.latch_count (ap ready (near ∙ is)) (ready_agrees x (omega (arith, is)))))
           (all_held 2 m _ _ count c.if-held-lt2.false);
       next = λ sizes.
-          get_or-set_same c.taken.new.chip.numbers 1 x 0 (omega (arith, (c.taken.ensures sizes).sizes.number_count)) ∙ is ∙ all_held 2 m _ _ count c.if-held-lt2.false;
+          get_or-set_same c.taken.new.chip.numbers 1 x 0 (omega (arith, (c.taken.ensures.turns sizes).sizes.number_count)) ∙ is ∙ all_held 2 m _ _ count c.if-held-lt2.false;
+      rest = search rules;
     }

@@ -13,25 +13,25 @@ use Rattle.command_arguments.proofs.HeldLaws.{front_length, front_taken}
 use Rattle.command_write_e2.proofs.WriteLaws.{refused_step, batch_turns}
 use Rattle.command_write_e2.proofs.bytes_latched.Goals as goal
 
-pub returns-then-waiting-eq0 : goal.returns-then-waiting-eq0
+pub returns-then-waiting-eq0-clause-turns : goal.returns-then-waiting-eq0-clause-turns
 unfolding view_of
-returns-then-waiting-eq0 c sizes =
+returns-then-waiting-eq0-clause-turns c sizes =
     let old = c.args.chip.now in
     becomes (write_stepped (ready (at old.numbers 1 % 0x200))) (stays old sizes)
     (too_few 1 (view old) _ _ (count_length c.held-waiting.ensures old.slots) (omega (arith, c.if-waiting-eq0.true)))
 
-pub returns-then-next-lt16 : goal.returns-then-next-lt16
+pub returns-then-next-lt16-clause-turns : goal.returns-then-next-lt16-clause-turns
 unfolding view_of
-returns-then-next-lt16 c sizes =
+returns-then-next-lt16-clause-turns c sizes =
     let old = c.args.chip.now in
     let next = at old.numbers 1 % 0x200 in
-    let flags = c.failed.ensures sizes in
-    becomes (write_stepped (ready next)) (then flags (c.ended.ensures flags.sizes))
+    let flags = c.failed.ensures.turns sizes in
+    becomes (write_stepped (ready next)) (then flags (c.ended.ensures.turns flags.sizes))
     (refused_step next (view old) (omega (arith, count_length c.held-waiting.ensures old.slots, c.if-waiting-eq0.false)) (omega (arith, c.if-next-lt16.true)))
 
-pub returns : goal.returns
+pub returns-clause-turns : goal.returns-clause-turns
 unfolding view_of
-returns c sizes =
+returns-clause-turns c sizes =
     let old = c.args.chip.now in
     let waiting = c.held-waiting in
     let n = c.batch-count.result in
@@ -40,4 +40,4 @@ returns c sizes =
     batch_turns old c.latch_bytes.new.latch (at old.numbers 1 % 0x200) waiting.result n waiting.ensures c.batch-count.ensures
     (omega (arith, c.if-next-lt16.false)) (omega arith) (omega (arith, c.if-waiting-eq0.false)) sizes
     (ap length latched ∙ front_length old.slots (at old.state 13) n old.latch sizes.latch_count few)
-    (ap (take n) latched ∙ front_taken old.slots (at old.state 13) n (drop n old.latch)) c.taken.ensures
+    (ap (take n) latched ∙ front_taken old.slots (at old.state 13) n (drop n old.latch)) c.taken.ensures.turns

@@ -8,10 +8,10 @@ use Rattle.state.proofs.TurnLaws.{then}
 use Rattle.register_write.proofs.WriteLaws.{judged}
 use Rattle.register_write.proofs.flushed.Goals as goal
 
-pub returns : goal.returns
+pub returns-clause-turns : goal.returns-clause-turns
 unfolding view_of
-returns c sizes =
-    let first = c.emptied.ensures sizes in
-    let second = c.cleared.ensures first.sizes in
+returns-clause-turns c sizes =
+    let first = c.emptied.ensures.turns sizes in
+    let second = c.cleared.ensures.turns first.sizes in
     let third = set_number (with_lost_sum 0) 2 0 c.cleared.new.self (lit< tt) refl second.sizes refl in
-    judged c.alerts_of-before.result c.alerts_of-before.ensures.is (then (then first second) third) (c.alerted.ensures third.sizes)
+    judged c.alerts_of-before.result c.alerts_of-before.ensures.is (then (then first second) third) (c.alerted.ensures.turns third.sizes)

@@ -3,13 +3,13 @@ use lib.Dec.{lit<}
 use Rattle.register_write.proofs.ModeLaws.{both_off, both_written_lem}
 use Rattle.register_write.proofs.modes_written.Goals as goal
 
-pub returns-then-control-v : goal.returns-then-control-v
-returns-then-control-v c sizes =
+pub returns-then-control-v-clause-turns : goal.returns-then-control-v-clause-turns
+returns-then-control-v-clause-turns c sizes =
     let a = c.args in
     both_off a.v a.chip.now sizes c.if-control-v.true
 
-pub returns : goal.returns
-returns c sizes =
+pub returns-clause-turns : goal.returns-clause-turns
+returns-clause-turns c sizes =
     let second-bit = c.before in
     let first_bit = second-bit.before in
     let second = first_bit.before in

@@ -6,7 +6,7 @@ ghost use Rattle.std.specs.Prelude.{◌≡◌};
 ghost use Rattle.crc.specs.Checksum.{absorbed_all};
 ghost use Rattle.machine.specs.State.{CalcCRC};
 ghost use Rattle.machine.specs.Commands.{stepped_as};
-ghost use Rattle.state.specs.View.{held_from};
+ghost use Rattle.state.specs.View.{held_from, with_numbers, with_state};
 ghost use Rattle.state.specs.Turns.{Turns};
 
 use state::{CRC_MODE, CRC_REGISTER, Chip, READ};
@@ -27,7 +27,8 @@ fn absorbed(slots: &[u8; 64], position: u8, count: u8, mode: u8, register: u16) 
 
 // CalcCRC's step: every held byte is taken, and TxIRq is set when any was.
 pub fn calc_crc(chip: &mut Chip)
-    ensures { Turns (stepped_as CalcCRC) chip.old chip.new }
+    ensures turns { Turns (stepped_as CalcCRC) chip.old chip.new }
+    ensures rest { chip.new ≡ with_numbers chip.new.numbers (with_state chip.new.state chip.old) }
 {
     let count = chip.held();
     if count == 0 {

@@ -9,6 +9,7 @@ ghost use Rattle.machine.specs.State.{ReadE2};
 ghost use Rattle.machine.specs.Fifo.{offered_all, lost_of};
 ghost use Rattle.machine.specs.Memory.{bytes_from};
 ghost use Rattle.machine.specs.Commands.{readable, read_from, stepped_as, lost_as};
+ghost use Rattle.state.specs.View.{with_clocks, with_numbers, with_slots, with_state};
 ghost use Rattle.state.specs.Turns.{TurnsLosing};
 ghost use Rattle.command_read_e2.specs.Reading.{lost_reading};
 
@@ -22,6 +23,7 @@ fn offered_memory(chip: &mut Chip, address: u16, count: u8) -> u8
     ensures turns { let bytes = bytes_from chip.old.eeprom address count in
         TurnsLosing (offered_all bytes) (lost_of bytes) chip.old chip.new result }
     ensures small { result ≤ 128 }
+    ensures rest { chip.new ≡ with_numbers chip.new.numbers (with_state chip.new.state (with_slots chip.new.slots chip.old)) }
 {
     let start = address as usize;
     let end = count as usize;
@@ -38,6 +40,7 @@ fn offered_memory(chip: &mut Chip, address: u16, count: u8) -> u8
 fn read_from(chip: &mut Chip, address: u16, count: u8) -> u8
     ensures turns { TurnsLosing (read_from address count) (lost_reading address count) chip.old chip.new result }
     ensures small { result ≤ 128 }
+    ensures rest { chip.new ≡ with_numbers chip.new.numbers (with_state chip.new.state (with_slots chip.new.slots chip.old)) }
 {
     if (count == 0) | (address as usize + count as usize <= 0x80) {
         return offered_memory(chip, address, count);
@@ -50,6 +53,7 @@ fn read_from(chip: &mut Chip, address: u16, count: u8) -> u8
 pub fn read_e2(chip: &mut Chip) -> u8
     ensures turns { TurnsLosing (stepped_as ReadE2) (lost_as ReadE2) chip.old chip.new result }
     ensures small { result ≤ 128 }
+    ensures rest { chip.new ≡ with_clocks chip.new.clocks (with_numbers chip.new.numbers (with_state chip.new.state (with_slots chip.new.slots chip.old))) }
 {
     if chip.held() < 3 {
         return 0;

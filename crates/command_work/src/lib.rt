@@ -2,7 +2,7 @@
 
 #![tactic(auto)]
 
-ghost use Rattle.std.specs.Prelude.{◌≤◌};
+ghost use Rattle.std.specs.Prelude.{◌≡◌, ◌≤◌};
 ghost use Rattle.machine.specs.Commands.{settled, lost_settling};
 ghost use Rattle.state.specs.Turns.{TurnsLosing};
 
@@ -11,16 +11,20 @@ use command_load_config::load_config;
 use command_load_key::{load_key, load_key_e2};
 use command_read_e2::read_e2;
 use command_write_e2::{address_taken, bytes_latched};
-use state::{Chip, LEFT, STAGE};
+use state::{
+    CALC_CRC, Chip, LEFT, LOAD_CONFIG, LOAD_KEY, LOAD_KEY_E2, READ_E2, STAGE, WRITE_E2,
+    WRITE_E2_ADDRESSED,
+};
 
 // All that it does at once: WriteE2 takes its address and then latches bytes, every other command needs one step. Idle and the commands that send or receive
 // take no waiting byte here, and neither does a WriteE2 that programs. Answers how many bytes were lost: only ReadE2 offers any.
 pub fn worked(chip: &mut Chip) -> u8
     ensures turns { TurnsLosing settled lost_settling chip.old chip.new result }
     ensures small { result ≤ 128 }
+    ensures rest { chip.new.eeprom ≡ chip.old.eeprom }
 {
     match chip.state[STAGE] {
-        0x01 => {
+        WRITE_E2 => {
             if chip.clocks[LEFT] != 0 {
                 return 0;
             }
@@ -31,27 +35,27 @@ pub fn worked(chip: &mut Chip) -> u8
             bytes_latched(chip);
             0
         }
-        0x41 => {
+        WRITE_E2_ADDRESSED => {
             if chip.clocks[LEFT] != 0 {
                 return 0;
             }
             bytes_latched(chip);
             0
         }
-        0x03 => read_e2(chip),
-        0x07 => {
+        READ_E2 => read_e2(chip),
+        LOAD_CONFIG => {
             load_config(chip);
             0
         }
-        0x0B => {
+        LOAD_KEY_E2 => {
             load_key_e2(chip);
             0
         }
-        0x12 => {
+        CALC_CRC => {
             calc_crc(chip);
             0
         }
-        0x19 => {
+        LOAD_KEY => {
             load_key(chip);
             0
         }

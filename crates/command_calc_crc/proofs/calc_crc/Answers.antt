@@ -9,19 +9,19 @@ use Rattle.command_arguments.proofs.ArgumentLaws.{too_few, all_held}
 use Rattle.command_calc_crc.proofs.AbsorbLaws.{sum_stored}
 use Rattle.command_calc_crc.proofs.calc_crc.Goals as goal
 
-pub returns-then-count-eq0 : goal.returns-then-count-eq0
+pub returns-then-count-eq0-clause-turns : goal.returns-then-count-eq0-clause-turns
 unfolding view_of
-returns-then-count-eq0 c sizes =
+returns-then-count-eq0-clause-turns c sizes =
     let old = c.args.chip.now in
     becomes (stepped_as CalcCRC) (stays old sizes)
     (too_few 1 (view old) _ _ (count_length c.held-count.ensures old.slots) (omega (arith, c.if-count-eq0.true)))
 
-pub returns : goal.returns
+pub returns-clause-turns : goal.returns-clause-turns
 unfolding view_of
-returns c sizes =
+returns-clause-turns c sizes =
     let old = c.args.chip.now in
     let p = c.held-count in
     let sums = sum_stored old p.result c.absorbed.result p.ensures c.absorbed.ensures sizes in
-    let leaves = c.emptied.ensures sums.sizes in
-    becomes (stepped_as CalcCRC) (then (then sums leaves) (c.requested.ensures leaves.sizes))
+    let leaves = c.emptied.ensures.turns sums.sizes in
+    becomes (stepped_as CalcCRC) (then (then sums leaves) (c.requested.ensures.turns leaves.sizes))
     (all_held 1 (view old) _ _ (count_length p.ensures old.slots) (omega (arith, c.if-count-eq0.false)))

@@ -3,7 +3,8 @@ use Rattle.std.proofs.Common.{ℕ, ◌+◌, ◌<◌, ◌≡◌, List, length, ge
 use Rattle.machine.specs.State.{Machine}
 use Rattle.machine.specs.Fifo.{offered, offered_all, lost_at, lost_of}
 use Rattle.machine.specs.Memory.{bytes_from}
-use Rattle.state.specs.View.{view, view_of}
+use Rattle.state.specs.View.{view, view_of, with_numbers, with_state, with_slots}
+use Rattle.state.specs.declared.Chip.{Chip}
 use Rattle.state.proofs.TurnLaws.{stays, then, becomes}
 use Rattle.command_read_e2.proofs.ReadLaws.{offers_keep, offer_next, lost_next, few_read, read_inside}
 use Rattle.command_read_e2.proofs.offered_memory.Goals as goal
@@ -15,7 +16,7 @@ inside c = read_inside c.args.address c.args.count c.loop-i.i c.requires (omega 
 
 pub loop-i-init : goal.loop-i-init
 unfolding offered_all lost_of
-loop-i-init c = (search rules, λ sizes. (stays _ sizes, refl))
+loop-i-init c = (search rules, λ sizes. (stays _ sizes, refl), refl)
 
 pub bounds-chip-start : goal.bounds-chip-start
 bounds-chip-start c = inside (goal.at.bounds-chip-start c).In-loop-i
@@ -39,6 +40,8 @@ loop-i-preserved c =
                 ∙ ap (λ (n : ℕ). lost_of (bytes_from eeprom a.address i) old + n) (one ∙ ap lost_at before.machine)
                 ∙ lost_next eeprom a.address i within old,
           ),
+      let next = c.offered-lost.new.chip in
+      c.offered-lost.ensures.rest ∙ ap (λ (d : Chip). with_numbers next.numbers (with_state next.state (with_slots next.slots d))) c.loop-i.invariant.2,
     )
 
 pub returns : goal.returns
@@ -54,4 +57,5 @@ returns c =
             lost ∙ ap (λ (n : ℕ). lost_of (bytes_from eeprom a.address n) old) all,
           );
       small = omega (arith, few_read a.address a.count c.requires);
+      rest = c.loop-i.invariant.2;
     }

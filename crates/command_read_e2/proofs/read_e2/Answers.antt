@@ -1,4 +1,5 @@
 -- `command_read_e2::read_e2` meets its contract, by whether three bytes are held. Assumes nothing.
+use Rattle.std.proofs.Common.{rules}
 use native.Mathlib.Omega.{arith}
 use mathlib.Core.Path.{ap, ◌∙◌}
 use Rattle.machine.specs.State.{ReadE2}
@@ -18,6 +19,7 @@ returns-then-held-lt3 c =
     let count = count_length c.held.ensures old.slots in record {
       turns = λ sizes. (becomes (stepped_as ReadE2) (stays old sizes) (too_few 3 (view old) _ _ count c.if-held-lt3.true), too_few 3 (view old) 0 _ count c.if-held-lt3.true);
       small = omega arith;
+      rest = search rules;
     }
 
 pub returns : goal.returns
@@ -26,12 +28,13 @@ returns c =
     let old = c.args.chip.now in
     let held = count_length c.held.ensures old.slots in record {
       turns = λ sizes.
-          let leave = c.taken.ensures sizes in
+          let leave = c.taken.ensures.turns sizes in
           let (come, lost) = c.read_from-lost.ensures.turns leave.sizes in (
-            becomes (stepped_as ReadE2) (then (then leave come) (c.ended.ensures come.sizes))
+            becomes (stepped_as ReadE2) (then (then leave come) (c.ended.ensures.turns come.sizes))
                 (step_read (view old) held c.if-held-lt3.false _ _ c.address-from.ensures c.argument-count.ensures),
             lost ∙ ap (lost_reading c.address-from.result c.argument-count.result) leave.machine
                 ∙ step_loses (view old) held c.if-held-lt3.false _ _ c.address-from.ensures c.argument-count.ensures,
           );
       small = c.read_from-lost.ensures.small;
+      rest = search rules;
     }

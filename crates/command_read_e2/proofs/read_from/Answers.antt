@@ -19,6 +19,7 @@ returns-then-count-address c =
           let (offers, lost) = c.offered_memory.ensures.turns sizes in
           (becomes (read_from a.address a.count) offers (read_offers a.address a.count old is), lost ∙ read_loses a.address a.count old is);
       small = c.offered_memory.ensures.small;
+      rest = search rules;
     }
 
 pub returns : goal.returns
@@ -27,6 +28,7 @@ returns c =
     let a = c.args in
     let old = view a.chip.now in
     let is : readable a.address a.count ≡ false = search rules in record {
-      turns = λ sizes. (becomes (read_from a.address a.count) (c.failed.ensures sizes) (read_refuses a.address a.count old is), refused_loses_none a.address a.count old is);
+      turns = λ sizes. (becomes (read_from a.address a.count) (c.failed.ensures.turns sizes) (read_refuses a.address a.count old is), refused_loses_none a.address a.count old is);
       small = omega arith;
+      rest = search rules;
     }

@@ -1,4 +1,5 @@
 -- `command_work::worked` meets its contract, by the stage. Assumes nothing.
+use Rattle.std.proofs.Common.{rules}
 use Prim.Native.Nat.{ℕ, ◌%◌}
 use native.Mathlib.Omega.{arith}
 use lib.Dec.{eqb}
@@ -32,6 +33,7 @@ returns-then-chip-ne0 c = record {
       let m = view old in
       (becomes settled (stays old sizes) (settled_rests m (programs_first (core old) old.latch m c.if-chip-ne0.true c.in-1.is)), quiet old (ap (λ (s : ℕ). eqb s 0x03) c.in-1.is));
   small = omega arith;
+  rest = search rules;
 }
 
 pub returns-then-held-lt2 : goal.returns-then-held-lt2
@@ -42,6 +44,7 @@ returns-then-held-lt2 c = record {
       let m = view old in
       (becomes settled (stays old sizes) (settled_waits m (at_addressing (core old) old.latch c.in-1.is c.if-chip-ne0.false) (omega (arith, count_length c.held.ensures old.slots))), quiet old (ap (λ (s : ℕ). eqb s 0x03) c.in-1.is));
   small = omega arith;
+  rest = search rules;
 }
 
 pub returns-then-chip-ne0-2 : goal.returns-then-chip-ne0-2
@@ -52,6 +55,7 @@ returns-then-chip-ne0-2 c = record {
       let m = view old in
       (becomes settled (stays old sizes) (settled_rests m (programs_on (core old) old.latch m c.if-chip-ne0-2.true c.in-65.is)), quiet old (ap (λ (s : ℕ). eqb s 0x03) c.in-65.is));
   small = omega arith;
+  rest = search rules;
 }
 
 pub returns-else-held-lt2 : goal.returns-else-held-lt2
@@ -66,13 +70,14 @@ returns-else-held-lt2 c = record {
       let first = takes.ensures.turns sizes in
       let wrapped : address_of (argument 0 m) (argument 1 m) % 0x200 ≡ address_of (argument 0 m) (argument 1 m) = omega arith in
       let found = takes.ensures.next sizes ∙ sym (all_held 2 m _ _ count c.if-held-lt2.false) in (
-        becomes settled (then first (latches.ensures first.sizes))
+        becomes settled (then first (latches.ensures.turns first.sizes))
             (ap (λ (n : ℕ). write_stepped (ready (n % 0x200)) (write_stepped addressing m)) found
             ∙ ap (λ (n : ℕ). write_stepped (ready n) (write_stepped addressing m)) wrapped
             ∙ settled_addresses m (at_addressing (core old) old.latch c.in-1.is c.if-chip-ne0.false) (omega (arith, count, c.if-held-lt2.false))),
         quiet old (ap (λ (s : ℕ). eqb s 0x03) c.in-1.is),
       );
   small = omega arith;
+  rest = search rules;
 }
 
 pub returns-else-chip-ne0-2 : goal.returns-else-chip-ne0-2
@@ -81,8 +86,9 @@ returns-else-chip-ne0-2 c = record {
   turns = λ sizes.
       let old = c.args.chip.now in
       let m = view old in
-      (becomes settled (c.bytes_latched-in-65.ensures sizes) (settled_writes m _ (at_ready (core old) old.latch c.in-65.is c.if-chip-ne0-2.false)), quiet old (ap (λ (s : ℕ). eqb s 0x03) c.in-65.is));
+      (becomes settled (c.bytes_latched-in-65.ensures.turns sizes) (settled_writes m _ (at_ready (core old) old.latch c.in-65.is c.if-chip-ne0-2.false)), quiet old (ap (λ (s : ℕ). eqb s 0x03) c.in-65.is));
   small = omega arith;
+  rest = search rules;
 }
 
 pub returns-in-3 : goal.returns-in-3
@@ -97,6 +103,7 @@ returns-in-3 c = record {
         lost ∙ read_loses m is,
       );
   small = c.read_e2.ensures.small;
+  rest = search rules;
 }
 
 pub returns-in-7 : goal.returns-in-7
@@ -105,8 +112,9 @@ returns-in-7 c = record {
   turns = λ sizes.
       let old = c.args.chip.now in
       let m = view old in
-      (becomes settled (c.load_config.ensures sizes) (settled_ends m LoadConfig (enough 2 m) (configured_from (address_of (argument 0 m) (argument 1 m)) (taken 2 m)) (rw c.in-7.is refl) refl), quiet old (ap (λ (s : ℕ). eqb s 0x03) c.in-7.is));
+      (becomes settled (c.load_config.ensures.turns sizes) (settled_ends m LoadConfig (enough 2 m) (configured_from (address_of (argument 0 m) (argument 1 m)) (taken 2 m)) (rw c.in-7.is refl) refl), quiet old (ap (λ (s : ℕ). eqb s 0x03) c.in-7.is));
   small = omega arith;
+  rest = search rules;
 }
 
 pub returns-in-11 : goal.returns-in-11
@@ -115,8 +123,9 @@ returns-in-11 c = record {
   turns = λ sizes.
       let old = c.args.chip.now in
       let m = view old in
-      (becomes settled (c.load_key_e2.ensures sizes) (settled_ends m LoadKeyE2 (enough 2 m) (key_from (address_of (argument 0 m) (argument 1 m)) (taken 2 m)) (rw c.in-11.is refl) refl), quiet old (ap (λ (s : ℕ). eqb s 0x03) c.in-11.is));
+      (becomes settled (c.load_key_e2.ensures.turns sizes) (settled_ends m LoadKeyE2 (enough 2 m) (key_from (address_of (argument 0 m) (argument 1 m)) (taken 2 m)) (rw c.in-11.is refl) refl), quiet old (ap (λ (s : ℕ). eqb s 0x03) c.in-11.is));
   small = omega arith;
+  rest = search rules;
 }
 
 pub returns-in-18 : goal.returns-in-18
@@ -125,8 +134,9 @@ returns-in-18 c = record {
   turns = λ sizes.
       let old = c.args.chip.now in
       let m = view old in
-      (becomes settled (c.calc_crc.ensures sizes) (settled_sums m (rw c.in-18.is refl)), quiet old (ap (λ (s : ℕ). eqb s 0x03) c.in-18.is));
+      (becomes settled (c.calc_crc.ensures.turns sizes) (settled_sums m (rw c.in-18.is refl)), quiet old (ap (λ (s : ℕ). eqb s 0x03) c.in-18.is));
   small = omega arith;
+  rest = search rules;
 }
 
 pub returns-in-25 : goal.returns-in-25
@@ -135,8 +145,9 @@ returns-in-25 c = record {
   turns = λ sizes.
       let old = c.args.chip.now in
       let m = view old in
-      (becomes settled (c.load_key.ensures sizes) (settled_ends m LoadKey (enough 12 m) (key_judged (take 12 m.held) (taken 12 m)) (rw c.in-25.is refl) refl), quiet old (ap (λ (s : ℕ). eqb s 0x03) c.in-25.is));
+      (becomes settled (c.load_key.ensures.turns sizes) (settled_ends m LoadKey (enough 12 m) (key_judged (take 12 m.held) (taken 12 m)) (rw c.in-25.is refl) refl), quiet old (ap (λ (s : ℕ). eqb s 0x03) c.in-25.is));
   small = omega arith;
+  rest = search rules;
 }
 
 pub returns-in_default : goal.returns-in_default
@@ -147,4 +158,5 @@ returns-in_default c = record {
       let m = view old in
       (becomes settled (stays old sizes) (settled_rests m (others_rest m (core old) old.latch c.in_default.in_default-own.rest)), quiet old (ne_eqb _ 0x03 c.in_default.in_default-own.rest.0.0.0.0.1));
   small = omega arith;
+  rest = search rules;
 }

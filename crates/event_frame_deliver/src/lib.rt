@@ -5,9 +5,10 @@
 
 #![tactic(auto)]
 
-ghost use Rattle.std.specs.Prelude.{◌≤◌, [], length};
+ghost use Rattle.std.specs.Prelude.{◌≡◌, ◌≤◌, [], length};
 ghost use Rattle.machine.specs.Frames.{rx_stopped, received, lost_receiving};
 ghost use Rattle.machine.specs.Refusals.{deliver};
+ghost use Rattle.state.specs.View.{with_clocks, with_numbers, with_slots, with_state};
 ghost use Rattle.state.specs.Turns.{Turns, TurnsLosing, Reads};
 ghost use Rattle.state.specs.Answers.{PromisesAnswer, lost_answer};
 ghost use Rattle.event_frame_deliver.specs.Judged.{frame_errors};
@@ -21,7 +22,8 @@ use state_timer::timer_stopped;
 
 // The timer is stopped where TimerControl (2Bh) has bit 2 or 3.
 fn rx_stopped(chip: &mut Chip)
-    ensures { Turns rx_stopped chip.old chip.new }
+    ensures turns { Turns rx_stopped chip.old chip.new }
+    ensures rest { chip.new ≡ with_clocks chip.new.clocks (with_state chip.new.state chip.old) }
 {
     let control = chip.registers[0x2B - 0x10];
     if (control / 4 % 2 == 1) | (control / 8 % 2 == 1) {
@@ -43,6 +45,7 @@ fn received(chip: &mut Chip, bytes: &[u8], parities: &[u8], last_bits: u8) -> us
     ensures turns { let frame = received bytes.now parities.now last_bits in
         TurnsLosing frame (lost_receiving bytes.now last_bits) chip.old chip.new result }
     ensures small { result ≤ length bytes.now }
+    ensures rest { chip.new ≡ with_clocks chip.new.clocks (with_numbers chip.new.numbers (with_state chip.new.state (with_slots chip.new.slots chip.old))) }
 {
     let errors = frame_errors(chip, bytes, parities, last_bits);
     let count = passed_length(chip, bytes, last_bits);
@@ -63,7 +66,8 @@ pub fn deliver(
     parities: &[u8],
     last_bits: u8,
 ) -> Result<Lost, Refusal>
-    ensures { PromisesAnswer lost_answer chip.old (deliver bytes.now parities.now last_bits) chip.new result [] }
+    ensures turns { PromisesAnswer lost_answer chip.old (deliver bytes.now parities.now last_bits) chip.new result [] }
+    ensures rest { chip.new ≡ with_clocks chip.new.clocks (with_numbers chip.new.numbers (with_state chip.new.state (with_slots chip.new.slots chip.old))) }
 {
     if !well_formed(chip) {
         return Err(Refusal::Malformed);

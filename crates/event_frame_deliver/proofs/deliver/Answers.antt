@@ -17,28 +17,28 @@ overflow_cast-result c =
     let a = c.args in
     record { fits = omega (arith, c.received-lost.ensures.small, few_bytes a.bytes.now a.parities.now a.last_bits (sym c.if-not-frame_formed.ensures)) }
 
-pub returns-then-not-well_formed : goal.returns-then-not-well_formed
-returns-then-not-well_formed c whole =
+pub returns-then-not-well_formed-clause-turns : goal.returns-then-not-well_formed-clause-turns
+returns-then-not-well_formed-clause-turns c whole =
     let a = c.args in
     malformed a.chip.now (deliver a.bytes.now a.parities.now a.last_bits) tt (sym (c.if-not-well_formed.ensures whole.sizes)) whole
 
-pub returns-then-not-frame_formed : goal.returns-then-not-frame_formed
-returns-then-not-frame_formed c whole =
+pub returns-then-not-frame_formed-clause-turns : goal.returns-then-not-frame_formed-clause-turns
+returns-then-not-frame_formed-clause-turns c whole =
     let a = c.args in
     let formed = sym (c.if-not-well_formed.ensures whole.sizes) in
     let number = deliver_unformed a.chip.now formed a.bytes.now a.parities.now a.last_bits c.if-not-frame_formed.ensures refl in
     refused a.chip.now (deliver a.bytes.now a.parities.now a.last_bits) 4 number.0 whole
 
-pub returns-then-not-receives : goal.returns-then-not-receives
-returns-then-not-receives c whole =
+pub returns-then-not-receives-clause-turns : goal.returns-then-not-receives-clause-turns
+returns-then-not-receives-clause-turns c whole =
     let a = c.args in
     let formed = sym (c.if-not-well_formed.ensures whole.sizes) in
     let number =
     deliver_judged a.chip.now formed a.bytes.now a.parities.now a.last_bits c.if-not-frame_formed.ensures refl false _ (sym c.if-not-receives.ensures) refl in
     refused a.chip.now (deliver a.bytes.now a.parities.now a.last_bits) 3 number.0 whole
 
-pub returns-then-modes_word-ne0 : goal.returns-then-modes_word-ne0
-returns-then-modes_word-ne0 c whole =
+pub returns-then-modes_word-ne0-clause-turns : goal.returns-then-modes_word-ne0-clause-turns
+returns-then-modes_word-ne0-clause-turns c whole =
     let a = c.args in
     let old = a.chip.now in
     let formed = sym (c.if-not-well_formed.ensures whole.sizes) in
@@ -47,14 +47,14 @@ returns-then-modes_word-ne0 c whole =
     (sym (stands_by_word old c.modes_word.result (own_fields_formed old formed) c.modes_word.ensures) ∙ ap not (ne_eqb _ 0 c.if-modes_word-ne0.true)) in
     refused old (deliver a.bytes.now a.parities.now a.last_bits) 3 number.0 whole
 
-pub returns : goal.returns
-returns c whole =
+pub returns-clause-turns : goal.returns-clause-turns
+returns-clause-turns c whole =
     let a = c.args in
     let old = a.chip.now in
     let bytes = a.bytes.now in
     let formed = sym (c.if-not-well_formed.ensures whole.sizes) in
     let (first, lost) = c.received-lost.ensures.turns whole.sizes in
-    let turn = then first (c.alerted.ensures first.sizes) in
+    let turn = then first (c.alerted.ensures.turns first.sizes) in
     accepted_here old formed (deliver bytes a.parities.now a.last_bits) c.alerted.new.chip _ []
     (search (rules, known_bytes)) whole
     (deliver_judged old formed bytes a.parities.now a.last_bits c.if-not-frame_formed.ensures refl true false (sym c.if-not-receives.ensures)

@@ -29,12 +29,12 @@ returns c =
     let marked = c.failed.new.self in
     record {
       turns = λ sizes.
-          let first = c.rx_stopped.ensures sizes in
-          let second = c.failed.ensures first.sizes in
+          let first = c.rx_stopped.ensures.turns sizes in
+          let second = c.failed.ensures.turns first.sizes in
           let third = set_byte (with_rx_last_bits last_bits_lem) marked.state 3 last_bits_lem marked (lit< tt) refl second.sizes refl (λ bytes. refl) in
           let (fourth, lost) = c.offered_all-lost.ensures.turns third.sizes in
-          let fifth = c.requested.ensures fourth.sizes in
-          let sixth = c.ended.ensures fifth.sizes in
+          let fifth = c.requested.ensures.turns fourth.sizes in
+          let sixth = c.ended.ensures.turns fifth.sizes in
           let before = then (then first second) third in (
             becomes (received bytes a.parities.now last_bits_lem) (then (then (then before fourth) fifth) sixth)
                 (frame_received bytes a.parities.now last_bits_lem old c.frame_errors-errors.result front c.frame_errors-errors.ensures c.passed_length-count.ensures.passes),

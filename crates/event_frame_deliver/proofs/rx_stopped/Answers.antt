@@ -7,14 +7,14 @@ use Rattle.state.specs.View.{view, view_of}
 use Rattle.state.proofs.TurnLaws.{stays, becomes}
 use Rattle.event_frame_deliver.proofs.rx_stopped.Goals as goal
 
-pub returns-then-control : goal.returns-then-control
+pub returns-then-control-clause-turns : goal.returns-then-control-clause-turns
 unfolding view_of
-returns-then-control c sizes =
+returns-then-control-clause-turns c sizes =
     let old = view c.args.chip.now in
-    becomes rx_stopped (c.timer_stopped.ensures sizes) (ap (λ (t : Bool). cond t (timer_stopped old) old) (sym c.if-control.true))
+    becomes rx_stopped (c.timer_stopped.ensures.turns sizes) (ap (λ (t : Bool). cond t (timer_stopped old) old) (sym c.if-control.true))
 
-pub returns-else-control : goal.returns-else-control
+pub returns-else-control-clause-turns : goal.returns-else-control-clause-turns
 unfolding view_of
-returns-else-control c sizes =
+returns-else-control-clause-turns c sizes =
     let old = view c.args.chip.now in
     becomes rx_stopped (stays c.args.chip.now sizes) (ap (λ (t : Bool). cond t (timer_stopped old) old) (sym c.if-control.false))

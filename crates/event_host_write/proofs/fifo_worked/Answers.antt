@@ -6,11 +6,11 @@ use Rattle.state.specs.View.{view}
 use Rattle.event_host_write.proofs.WorkLaws.{worked_over}
 use Rattle.event_host_write.proofs.fifo_worked.Goals as goal
 
-pub returns : goal.returns
-returns c sizes =
+pub returns-clause-turns : goal.returns-clause-turns
+returns-clause-turns c sizes =
     let (first, own) = c.offered-own.ensures.turns sizes in
     let (second, others) = c.worked-others.ensures.turns first.sizes in (
       worked_over c.args.chip.now c.offered-own.new.chip c.worked-others.new.chip c.alerts_of-before.result c.alerts_of-before.ensures.is first second
-          (c.alerted.ensures second.sizes),
+          (c.alerted.ensures.turns second.sizes),
       ap (λ (n : ℕ). n + c.worked-others.result) own ∙ ap (λ (n : ℕ). lost_at (view c.args.chip.now) + n) (others ∙ ap lost_settling first.machine),
     )

@@ -1,4 +1,5 @@
 -- `event_frame_deliver::received` meets its contract: its callees' turns in order, the frame judged by the registers alone. Assumes nothing.
+use Rattle.std.proofs.Common.{rules}
 use mathlib.Core.Path.{refl, sym, ap, ◌∙◌}
 use native.Mathlib.Omega.{arith}
 use lib.Dec.{lit<}
@@ -41,4 +42,5 @@ returns c =
             lost ∙ ap (lost_of front) before.machine ∙ frame_loses bytes last_bits_lem old c.frame_errors-errors.result front c.passed_length-count.ensures.passes,
           );
       small = omega (arith, c.offered_all-lost.ensures.small, length-take-le c.passed_length-count.result bytes c.passed_length-count.ensures.inside, c.passed_length-count.ensures.inside);
+      rest = search rules;
     }

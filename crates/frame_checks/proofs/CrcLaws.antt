@@ -2,15 +2,15 @@
 -- Assumes nothing.
 use borrow.Author.Tests.{eqb-true, eqb-false, eq-eqb, ne_eqb, lt-ltb, le-ltb}
 use mathlib.Core.Path.{◌≡◌, refl, sym, ap, ◌∙◌}
-use mathlib.Core.Bool.{Bool, true, false, cond, not, ◌&&◌, and-true, and-false}
+use mathlib.Core.Bool.{Bool, true, false, cond, not, ◌&&◌, and-true}
 use mathlib.Core.List.{List, [], ◌∷◌}
-use Prim.Native.Nat.{ℕ, suc, ◌+◌, ◌-◌, ◌%◌, ◌/◌, ◌<◌, ◌≤◌}
+use Prim.Native.Nat.{ℕ, suc, ◌+◌, ◌-◌, ◌%◌, ◌/◌, ◌<◌}
 use native.Mathlib.Numerals.{add-one}
 use native.Mathlib.Omega.{arith}
 use lib.Dec.{ltb, eqb}
 use lib.ListN.{length, get_or, take, drop, drop_of_length-le}
 use lib.Seq.{take_all, drop-cons}
-use Rattle.bits.specs.Bits.{bit, bit_set}
+use Rattle.bits.specs.Bits.{bit}
 use Rattle.crc.specs.Checksum.{crc8_bit}
 use Rattle.machine.specs.State.{Machine}
 use Rattle.machine.specs.Fifo.{register_at}
@@ -42,38 +42,6 @@ same_two bytes n v w ends =
     ∙ ap (λ (t : Bool). eqb (get_or bytes n 0) v && t) (same_one bytes (n + 1) w (omega arith))
 
 module _ (m : Machine) (bytes : List ℕ) (last_bits : ℕ) where
-  -- The trailing bytes, by whether the frame has a checksum.
-  trailing_by : (t : Bool) → has_crc m bytes last_bits ≡ t → cond t (2 - register_at m 0x22 / 16 % 2) 0 ≡ trailing_crc m bytes last_bits
-  trailing_by t is = ap (λ (n : ℕ). cond t n 0) (sym (width_is m)) ∙ ap (λ (h : Bool). cond h (crc_width m) 0) (sym is)
-
-  -- A frame has a checksum: one is checked, the frame is long enough, and it has no last bits.
-  pub trailing_there : register_at m 0x22 / 8 % 2 ≡ 1 → 2 - register_at m 0x22 / 16 % 2 ≤ length bytes → last_bits ≡ 0 → 2 - register_at m 0x22 / 16 % 2 ≡ trailing_crc m bytes last_bits
-  trailing_there on long none =
-      trailing_by true
-      (ap (λ (t : Bool). t && (not (ltb (length bytes) (crc_width m)) && eqb last_bits 0)) (eq-eqb (bit (register_at m 0x22) 3) 1 on)
-      ∙ ap (λ (t : Bool). not t && eqb last_bits 0) (le-ltb (length bytes) (crc_width m) (omega (arith, width_is m)))
-      ∙ eq-eqb last_bits 0 none)
-
-  -- No checksum is checked.
-  pub trailing_off : register_at m 0x22 / 8 % 2 ≡ 0 → 0 ≡ trailing_crc m bytes last_bits
-  trailing_off off =
-      trailing_by false (ap (λ (t : Bool). t && (not (ltb (length bytes) (crc_width m)) && eqb last_bits 0)) (ne_eqb (bit (register_at m 0x22) 3) 1 (λ e. omega arith)))
-
-  -- The frame is shorter than its checksum.
-  pub trailing_short : length bytes < 2 - register_at m 0x22 / 16 % 2 → 0 ≡ trailing_crc m bytes last_bits
-  trailing_short short =
-      trailing_by false
-      (ap (λ (t : Bool). bit_set (register_at m 0x22) 3 && (not t && eqb last_bits 0)) (lt-ltb (length bytes) (crc_width m) (omega (arith, width_is m)))
-      ∙ and-false (bit_set (register_at m 0x22) 3))
-
-  -- The frame has last bits.
-  pub trailing_part : 0 < last_bits → 0 ≡ trailing_crc m bytes last_bits
-  trailing_part some =
-      trailing_by false
-      (ap (λ (t : Bool). bit_set (register_at m 0x22) 3 && (not (ltb (length bytes) (crc_width m)) && t)) (ne_eqb last_bits 0 (λ e. omega arith))
-      ∙ ap (λ (t : Bool). bit_set (register_at m 0x22) 3 && t) (and-false (not (ltb (length bytes) (crc_width m))))
-      ∙ and-false (bit_set (register_at m 0x22) 3))
-
   -- The last bytes are not the checksum of those before.
   abbrev differs : Bool
   differs = not (same_bytes (drop (length bytes - crc_width m) bytes) (crc_bytes m (passed m bytes last_bits)))

@@ -1,11 +1,10 @@
 -- `frame_checks::checksum::crc_fails` meets its contract, by whether the frame has a checksum, and of how many bytes. Assumes nothing.
-use mathlib.Core.Path.{refl, sym, ap, ◌∙◌}
+use mathlib.Core.Path.{refl, ap, ◌∙◌}
 use mathlib.Core.Bool.{not, ◌&&◌}
 use Prim.Native.Nat.{ℕ, ◌-◌, ◌/◌, ◌%◌}
 use native.Mathlib.Omega.{arith}
 use lib.Dec.{eqb}
 use lib.ListN.{length, get_or}
-use lib.Seq.{length-take-le}
 use Rattle.state.specs.View.{view, view_of}
 use Rattle.frame_checks.proofs.CrcLaws.{crc_unchecked, crc_missing, one_compared, two_compared}
 use Rattle.frame_checks.proofs.checksum.crc_fails.Goals as goal
@@ -23,11 +22,6 @@ returns-then-width-eq0 c =
     let bytes = a.bytes.now in
     let m = view a.chip.now in
     crc_missing m bytes a.last_bits c.trailing_crc-width.result (c.trailing_crc-width.ensures.counts m bytes refl refl) (omega arith) (omega arith)
-
-pub slice_bounds-checksum-end : goal.slice_bounds-checksum-end
-slice_bounds-checksum-end c =
-    let bytes = c.args.bytes.now in
-    sym (length-take-le (length bytes - c.trailing_crc-width.result) bytes (omega arith))
 
 pub returns-then-width-eq1 : goal.returns-then-width-eq1
 unfolding view_of

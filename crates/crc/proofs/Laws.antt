@@ -12,7 +12,7 @@ use lib.Dec.{eqb}
 use lib.ListN.{length, drop, get_or, drop_of_length-le}
 use lib.Pow.{pow_pos}
 use lib.Seq.{drop-cons}
-use Rattle.bits.proofs.Xor.{xor_assoc}
+use Rattle.std.specs.Int.Bits.{xor_assoc}
 use Rattle.crc.specs.Checksum.{after_bit, after_bits, after_byte, after_bytes}
 
 -- The bit after k of n is taken off the bits that are left.

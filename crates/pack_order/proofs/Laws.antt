@@ -13,8 +13,9 @@ use borrow.Author.Tests.{ltb-true, ltb-false, lt-ltb, le-ltb}
 use Rattle.pack_order.specs.Order.{by_first, compared, same}
 use Rattle.std.specs.declared.cmp.Ordering.{Ordering}
 use Rattle.std.specs.declared.cmp.Ordering.TheVariants.{Less, Equal, Greater}
-use Rattle.std.specs.Ordering.{is_eq, is_ne, nat_cmp, ordering_then}
+use Rattle.std.specs.Ordering.{is_eq, nat_cmp, ordering_then}
 use Rattle.std.specs.Cmp.{nat_cmp_is}
+use Rattle.std.specs.FinMap.{nat_cmp-IsAntisymmetric}
 
 -- A byte string is the same as itself.
 pub compared_self : (xs : List ℕ) → compared xs xs ≡ Equal
@@ -85,16 +86,17 @@ first_decides x y rest = go (ltb x y) refl (ltb y x) refl
     go false et true eu = rw (sym (nat_cmp_is x y Greater (ltb-true y x eu)))
     go false et false eu = rw (sym (nat_cmp_is x y Equal (omega (arith, ltb-false x y et, ltb-false y x eu))))
 
--- An order that is not that of equals stands, whatever follows; that of equals leaves it to what follows.
-pub decided : (o rest : Ordering) → is_ne o ≡ true → ordering_then o rest ≡ o
-decided Less rest e = refl
-decided Equal rest e = absurd (false≢true e)
-decided Greater rest e = refl
+-- Two numbers that differ decide, whatever follows; two that are the same leave it to what follows.
+pub decided : (x y : ℕ) (rest : Ordering) → (x ≡ y → ⊥) → ordering_then (nat_cmp x y) rest ≡ nat_cmp x y
+decided x y rest differ = go (nat_cmp x y) refl
+  where
+    go : (o : Ordering) → nat_cmp x y ≡ o → ordering_then o rest ≡ o
+    go Less e = refl
+    go Equal e = absurd (differ (nat_cmp-IsAntisymmetric x y e))
+    go Greater e = refl
 
-pub undecided : (o rest : Ordering) → is_ne o ≡ false → ordering_then o rest ≡ rest
-undecided Less rest e = absurd (false≢true (sym e))
-undecided Equal rest e = refl
-undecided Greater rest e = absurd (false≢true (sym e))
+pub undecided : (x y : ℕ) (rest : Ordering) → x ≡ y → ordering_then (nat_cmp x y) rest ≡ rest
+undecided x y rest same = ap (λ (o : Ordering). ordering_then o rest) (sym (nat_cmp_is x y Equal same))
 
 -- Bytes number i decide, or leave it to those behind them.
 pub compared_at : (xs ys : List ℕ) (i : ℕ) → i < length xs → i < length ys →

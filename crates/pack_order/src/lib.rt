@@ -12,9 +12,8 @@ fn compare_bytes(a: &[u8], b: &[u8]) -> Ordering
     ensures { result ≡ compared a.now b.now }
 {
     for (x, y) in a.iter().zip(b) {
-        let order = x.cmp(y);
-        if order.is_ne() {
-            return order;
+        if x != y {
+            return x.cmp(y);
         }
     }
     a.len().cmp(&b.len())
@@ -30,9 +29,10 @@ pub fn compare(a: &[u8], b: &[u8]) -> Ordering
         left.split_first_chunk::<8>(),
         right.split_first_chunk::<8>(),
     ) {
-        let order = u64::from_be_bytes(*x).cmp(&u64::from_be_bytes(*y));
-        if order.is_ne() {
-            return order;
+        let left_word = u64::from_be_bytes(*x);
+        let right_word = u64::from_be_bytes(*y);
+        if left_word != right_word {
+            return left_word.cmp(&right_word);
         }
         left = xs;
         right = ys;

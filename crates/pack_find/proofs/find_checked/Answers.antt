@@ -5,7 +5,7 @@ use mathlib.Core.List.{List}
 use Prim.Native.Nat.{ℕ, ◌+◌, ◌-◌, ◌/◌, ◌<◌}
 use native.Mathlib.Omega.{arith}
 use Rattle.pack_order.specs.Order.{compared}
-use Rattle.pack_order.specs.declared.Order.{Order}
+use Rattle.std.specs.declared.cmp.Ordering.{Ordering}
 use Rattle.pack.specs.Outcome.{numbered}
 use Rattle.pack.specs.Read.{name_in}
 use Rattle.pack.specs.Find.{by_order, halving, offset_of}
@@ -14,13 +14,13 @@ use Rattle.pack_find.proofs.Laws.{next_comparison, none_left}
 use Rattle.pack_find.proofs.find_checked.Goals as goal
 
 -- What the answer of the comparison leaves to be found.
-compared_here : (pack name : List ℕ) (made low high : ℕ) → made < 9 → low < high → {part : List ℕ} {order : Order} →
+compared_here : (pack name : List ℕ) (made low high : ℕ) → made < 9 → low < high → {part : List ℕ} {order : Ordering} →
     part ≡ name_in pack ((low + high) / 2) → compared part name ≡ order →
     halving (9 - made) pack name low high
     ≡ by_order order ((low + high) / 2) (halving (9 - (made + 1)) pack name ((low + high) / 2 + 1) high) (halving (9 - (made + 1)) pack name low ((low + high) / 2))
 compared_here pack name made low high few some is order =
     next_comparison pack name made low high few some
-    ∙ ap (λ (o : Order). by_order o ((low + high) / 2) (halving (9 - (made + 1)) pack name ((low + high) / 2 + 1) high) (halving (9 - (made + 1)) pack name low ((low + high) / 2)))
+    ∙ ap (λ (o : Ordering). by_order o ((low + high) / 2) (halving (9 - (made + 1)) pack name ((low + high) / 2 + 1) high) (halving (9 - (made + 1)) pack name low ((low + high) / 2)))
     (ap (λ (l : List ℕ). compared l name) (sym is) ∙ order)
 
 pub loop-comparisons-init : goal.loop-comparisons-init

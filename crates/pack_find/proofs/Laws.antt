@@ -43,27 +43,27 @@ none_left (suc left) bytes name low high none = simp (le-ltb low high none)
 pub halving_refused : (left : ℕ) (bytes name : List ℕ) (low high number : ℕ) → halving left bytes name low high ≡ refused number → number ≡ 15
 unfolding halving
 halving_refused zero bytes name low high number e = let is : 15 ≡ number = cc in sym is
-halving_refused (suc left) bytes name low high number e = go (ltb low high) (compared (name_in bytes ((low + high) / 2)) name) e
+halving_refused (suc left) bytes name low high number e = go (halving_refused left bytes name) (ltb low high) (compared (name_in bytes ((low + high) / 2)) name) e
   where
-    go : (t : Bool) (o : Ordering) →
+    go : ((low high number : ℕ) → halving left bytes name low high ≡ refused number → number ≡ 15) → (t : Bool) (o : Ordering) →
         cond t (by_order o ((low + high) / 2) (halving left bytes name ((low + high) / 2 + 1) high) (halving left bytes name low ((low + high) / 2))) (refused 15) ≡ refused number → number ≡ 15
-    go true Less e = halving_refused left bytes name ((low + high) / 2 + 1) high number e
-    go true Equal e = absurd (done_not_refused refl e)
-    go true Greater e = halving_refused left bytes name low ((low + high) / 2) number e
-    go false o e = let is : 15 ≡ number = cc in sym is
+    go rest true Less e = rest ((low + high) / 2 + 1) high number e
+    go rest true Equal e = absurd (done_not_refused refl e)
+    go rest true Greater e = rest low ((low + high) / 2) number e
+    go rest false o e = let is : 15 ≡ number = cc in sym is
 
 -- What it finds comes before `high`.
 pub halving_within : (left : ℕ) (bytes name : List ℕ) (low high i : ℕ) → halving left bytes name low high ≡ done i → i < high
 unfolding halving
 halving_within zero bytes name low high i e = absurd (done_not_refused e refl)
-halving_within (suc left) bytes name low high i e = go (ltb low high) refl (compared (name_in bytes ((low + high) / 2)) name) e
+halving_within (suc left) bytes name low high i e = go (halving_within left bytes name) (ltb low high) refl (compared (name_in bytes ((low + high) / 2)) name) e
   where
-    go : (t : Bool) → ltb low high ≡ t → (o : Ordering) →
+    go : ((low high i : ℕ) → halving left bytes name low high ≡ done i → i < high) → (t : Bool) → ltb low high ≡ t → (o : Ordering) →
         cond t (by_order o ((low + high) / 2) (halving left bytes name ((low + high) / 2 + 1) high) (halving left bytes name low ((low + high) / 2))) (refused 15) ≡ done i → i < high
-    go true et Less e = halving_within left bytes name ((low + high) / 2 + 1) high i e
-    go true et Equal e = let is : (low + high) / 2 ≡ i = cc in omega (arith, ltb-true low high et, is)
-    go true et Greater e = let before = halving_within left bytes name low ((low + high) / 2) i e in omega (arith, ltb-true low high et)
-    go false et o e = absurd (done_not_refused e refl)
+    go rest true et Less e = rest ((low + high) / 2 + 1) high i e
+    go rest true et Equal e = let is : (low + high) / 2 ≡ i = cc in omega (arith, ltb-true low high et, is)
+    go rest true et Greater e = let before = rest low ((low + high) / 2) i e in omega (arith, ltb-true low high et, before)
+    go rest false et o e = absurd (done_not_refused e refl)
 
 -- ---- the answer by its outcome
 

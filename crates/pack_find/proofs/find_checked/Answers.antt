@@ -11,6 +11,7 @@ use Rattle.pack.specs.Find.{by_order, halving}
 use Rattle.pack.proofs.Count.{count_small}
 use Rattle.pack_find.proofs.Laws.{next_comparison, none_left, told}
 use Rattle.pack_find.proofs.find_checked.Goals as goal
+use Rattle.pack_find.proofs.find_checked.Goals.{in-Less, in-Greater}
 
 -- What the answer of the comparison leaves to be found.
 compared_here : (pack name : List ℕ) (made low high : ℕ) → made < 9 → low < high → {part : List ℕ} {order : Ordering} →
@@ -51,19 +52,19 @@ returns-in-Equal c =
     let here = compared_here a.pack.now a.name.now c.loop-comparisons.comparisons c.loop-comparisons.low c.loop-comparisons.high (search rules) (search rules) part (sym c.compare.ensures ∙ c.in-Equal.is) in
     sym (ap told (c.loop-comparisons.invariant.1 ∙ here))
 
-pub loop-comparisons-preserved-in-Less : goal.loop-comparisons-preserved-in-Less
-loop-comparisons-preserved-in-Less c =
-    let a = c.args in
-    let part : c.unwrap.result.now ≡ name_in a.pack.now ((c.loop-comparisons.low + c.loop-comparisons.high) / 2) = search rules in
-    let here = compared_here a.pack.now a.name.now c.loop-comparisons.comparisons c.loop-comparisons.low c.loop-comparisons.high (search rules) (search rules) part (sym c.compare.ensures ∙ c.in-Less.is) in
-    (search rules, c.loop-comparisons.invariant.1 ∙ here)
-
 pub loop-comparisons-preserved : goal.loop-comparisons-preserved
 loop-comparisons-preserved c =
     let a = c.args in
-    let part : c.unwrap.result.now ≡ name_in a.pack.now ((c.loop-comparisons.low + c.loop-comparisons.high) / 2) = search rules in
-    let here = compared_here a.pack.now a.name.now c.loop-comparisons.comparisons c.loop-comparisons.low c.loop-comparisons.high (search rules) (search rules) part (sym c.compare.ensures ∙ c.in-Greater.is) in
-    (omega arith, c.loop-comparisons.invariant.1 ∙ here)
+    let l = c.loop-comparisons in
+    let part : c.unwrap.result.now ≡ name_in a.pack.now ((l.low + l.high) / 2) = search rules in
+    elim c.match-compare.branch [
+      | in-Less w ↦
+        let here = compared_here a.pack.now a.name.now l.comparisons l.low l.high (search rules) (search rules) part (sym c.compare.ensures ∙ w.in-Less.is) in
+        (omega (arith, w.high-is, l.invariant.0), (l.invariant.1 ∙ here) ∙ (λ k. halving (9 - (l.comparisons + 1)) a.pack.now a.name.now (sym w.low-is k) (sym w.high-is k)))
+      | in-Greater w ↦
+        let here = compared_here a.pack.now a.name.now l.comparisons l.low l.high (search rules) (search rules) part (sym c.compare.ensures ∙ w.in-Greater.is) in
+        (omega (arith, w.high-is, l.invariant.0, c.if-low-high.false), (l.invariant.1 ∙ here) ∙ (λ k. halving (9 - (l.comparisons + 1)) a.pack.now a.name.now (sym w.low-is k) (sym w.high-is k)))
+    ]
 
 pub returns : goal.returns
 unfolding halving

@@ -71,8 +71,8 @@ pub fn find(pack: &[u8], name: &[u8]) -> Result<usize, FindError>
 pub fn found<'a>(pack: &'a [u8], name: &[u8]) -> Result<&'a [u8], FindError>
     ensures { let outcome = finding pack.now name.now in
         MatchResult result
-            (λ part. (length part.now ≡ 32) × (part.now ≡ part_found pack.now outcome))
-            (λ error. outcome ≡ refused (number_of error)) }
+        (λ part. (length part.now ≡ 32) × (part.now ≡ part_found pack.now outcome))
+        (λ error. outcome ≡ refused (number_of error)) }
 {
     let start = find(pack, name)?;
     let end = start + 32;

@@ -59,11 +59,11 @@ loop-comparisons-preserved c =
     let part : c.unwrap.result.now ≡ name_in a.pack.now ((l.low + l.high) / 2) = search rules in
     elim c.match-compare.branch [
       | in-Less w ↦
-        let here = compared_here a.pack.now a.name.now l.comparisons l.low l.high (search rules) (search rules) part (sym c.compare.ensures ∙ w.in-Less.is) in
-        (omega (arith, w.high-is, l.invariant.0), (l.invariant.1 ∙ here) ∙ (λ k. halving (9 - (l.comparisons + 1)) a.pack.now a.name.now (sym w.low-is k) (sym w.high-is k)))
+          let here = compared_here a.pack.now a.name.now l.comparisons l.low l.high (search rules) (search rules) part (sym c.compare.ensures ∙ w.in-Less.is) in
+          (omega (arith, w.high-is, l.invariant.0), (l.invariant.1 ∙ here) ∙ (λ k. halving (9 - (l.comparisons + 1)) a.pack.now a.name.now (sym w.low-is k) (sym w.high-is k)))
       | in-Greater w ↦
-        let here = compared_here a.pack.now a.name.now l.comparisons l.low l.high (search rules) (search rules) part (sym c.compare.ensures ∙ w.in-Greater.is) in
-        (omega (arith, w.high-is, l.invariant.0, c.if-low-high.false), (l.invariant.1 ∙ here) ∙ (λ k. halving (9 - (l.comparisons + 1)) a.pack.now a.name.now (sym w.low-is k) (sym w.high-is k)))
+          let here = compared_here a.pack.now a.name.now l.comparisons l.low l.high (search rules) (search rules) part (sym c.compare.ensures ∙ w.in-Greater.is) in
+          (omega (arith, w.high-is, l.invariant.0, c.if-low-high.false), (l.invariant.1 ∙ here) ∙ (λ k. halving (9 - (l.comparisons + 1)) a.pack.now a.name.now (sym w.low-is k) (sym w.high-is k)))
     ]
 
 pub returns : goal.returns

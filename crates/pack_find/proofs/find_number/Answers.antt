@@ -1,14 +1,13 @@
 -- `pack_find::find_number` meets its contract. Assumes nothing.
 use borrow.Author.Rules.{rules}
 use mathlib.Core.Path.{sym, ap, ◌∙◌}
-use Prim.Native.Nat.{ℕ, ◌*◌, ◌≤◌}
+use Prim.Native.Nat.{◌≤◌}
 use native.Mathlib.Omega.{arith}
 use Rattle.pack.specs.Outcome.{numbered}
 use Rattle.pack.specs.Find.{finding, offset_of}
-use Rattle.pack.specs.Read.{count_in}
 use Rattle.pack.proofs.Count.{count_small}
 use Rattle.pack.proofs.Reading.{found_within, found_refused}
-use Rattle.pack_find.proofs.Laws.{offset_done, error_refused, halving_refused, halving_within}
+use Rattle.pack_find.proofs.Laws.{offset_done, error_refused}
 use Rattle.pack_find.proofs.find_number.Goals as goal
 
 pub overflow_cast-result : goal.overflow_cast-result

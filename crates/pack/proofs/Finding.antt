@@ -8,9 +8,10 @@ use native.Mathlib.Nat.{add-zero}
 use native.Mathlib.Omega.{arith}
 use lib.ListN.{length}
 use Rattle.bits.proofs.Both.{each}
-use Rattle.pack_order.specs.Order.{compared, is_less, is_equal, before, same}
-use Rattle.pack_order.specs.declared.Order.{Order}
-use Rattle.pack_order.specs.declared.Order.TheVariants.{Less, Equal, Greater}
+use Rattle.std.specs.Ordering.{is_lt, is_eq}
+use Rattle.pack_order.specs.Order.{compared, before, same}
+use Rattle.std.specs.declared.cmp.Ordering.{Ordering}
+use Rattle.std.specs.declared.cmp.Ordering.TheVariants.{Less, Equal, Greater}
 use Rattle.pack_order.proofs.Laws.{less_less, same_true, true_same, same_false}
 use Rattle.pack.specs.Layout.{Profile}
 use Rattle.pack.specs.Outcome.{done, refused}
@@ -21,7 +22,7 @@ use Rattle.pack.proofs.Outcomes.{done_not_refused}
 
 -- ---- names that ascend
 
-is_less_lem : (o : Order) → is_less o ≡ true → o ≡ Less
+is_less_lem : (o : Ordering) → is_lt o ≡ true → o ≡ Less
 is_less_lem Less e = refl
 is_less_lem Equal e = absurd (false≢true e)
 is_less_lem Greater e = absurd (false≢true e)
@@ -59,7 +60,7 @@ place_at i (p ∷ ps) ascends zero h =
     ap (λ (t : Bool). cond t (done i) (place_from (suc i) p.name ps)) (same_true p.name p.name refl) ∙ ap done (sym (add-zero i))
 place_at i (p ∷ ps) ascends (suc j) h =
     let e : suc i + j ≡ i + suc j = omega arith in
-    ap (λ (t : Bool). cond t (done i) (place_from (suc i) (profile_at ps j).name ps)) (ap is_equal (first_less p ps ascends j (omega arith)))
+    ap (λ (t : Bool). cond t (done i) (place_from (suc i) (profile_at ps j).name ps)) (ap is_eq (first_less p ps ascends j (omega arith)))
     ∙ place_at (suc i) ps (ascending_rest p ps ascends) j (omega arith) ∙ ap done e
 
 -- A name that no profile has is refused with 15.

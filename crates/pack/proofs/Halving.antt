@@ -8,8 +8,8 @@ use native.Mathlib.Omega.{arith}
 use lib.Dec.{ltb}
 use borrow.Author.Tests.{ltb-true, ltb-false}
 use Rattle.pack_order.specs.Order.{compared}
-use Rattle.pack_order.specs.declared.Order.{Order}
-use Rattle.pack_order.specs.declared.Order.TheVariants.{Less, Equal, Greater}
+use Rattle.std.specs.declared.cmp.Ordering.{Ordering}
+use Rattle.std.specs.declared.cmp.Ordering.TheVariants.{Less, Equal, Greater}
 use Rattle.pack_order.proofs.Laws.{compared_self, equal_same, less_less}
 use Rattle.pack.specs.Outcome.{Outcome, done, refused}
 use Rattle.pack.specs.Read.{count_in, name_in}
@@ -60,7 +60,7 @@ module _ (bytes name : List ℕ) (ascends : (i j : ℕ) → i < j → j < count_
           go (halving_finds comparisons) (ltb low high) refl (compared (name_in bytes ((low + high) / 2)) name) refl
         where
           go : ((low high : ℕ) → high ≤ count_in bytes → high < 2 ^ comparisons + low → Within low high → halving comparisons bytes name low high ≡ result) →
-              (t : Bool) → ltb low high ≡ t → (o : Order) → compared (name_in bytes ((low + high) / 2)) name ≡ o →
+              (t : Bool) → ltb low high ≡ t → (o : Ordering) → compared (name_in bytes ((low + high) / 2)) name ≡ o →
               cond t
               (by_order o ((low + high) / 2)
               (halving comparisons bytes name ((low + high) / 2 + 1) high)

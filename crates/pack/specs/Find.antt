@@ -2,8 +2,8 @@
 -- Assumes nothing.
 use Rattle.std.specs.Prelude.{ℕ, zero, suc, ◌+◌, ◌*◌, ◌/◌, cond, not, List, [], ◌∷◌, ltb}
 use Rattle.pack_order.specs.Order.{compared, same}
-use Rattle.pack_order.specs.declared.Order.{Order}
-use Rattle.pack_order.specs.declared.Order.TheVariants.{Less, Equal, Greater}
+use Rattle.std.specs.declared.cmp.Ordering.{Ordering}
+use Rattle.std.specs.declared.cmp.Ordering.TheVariants.{Less, Equal, Greater}
 use Rattle.pack.specs.Layout.{Profile}
 use Rattle.pack.specs.Outcome.{Outcome, done, refused, refuse_if}
 use Rattle.pack.specs.Read.{count_in, profiles_in, is_pack, name_in, body_in}
@@ -27,7 +27,7 @@ abbrev pub offset_of : ℕ → ℕ
 offset_of i = 32 * i
 
 -- What a comparison decides: the place is found, or the search goes on behind it, or before it.
-abbrev pub by_order : Order → ℕ → Outcome ℕ → Outcome ℕ → Outcome ℕ
+abbrev pub by_order : Ordering → ℕ → Outcome ℕ → Outcome ℕ → Outcome ℕ
 by_order Equal middle behind ahead = done middle
 by_order Less middle behind ahead = behind
 by_order Greater middle behind ahead = ahead

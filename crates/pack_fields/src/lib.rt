@@ -1,23 +1,21 @@
-// What the writer and the reader of a pack share (manual 11.6): a number as four bytes, and the order of names.
+// What the writer and the reader of a pack share (manual 11.6): how many profiles it has at most, a number as four bytes, and the order of names.
 
 #![tactic(auto)]
 
 ghost use Rattle.std.specs.Prelude.{◌≡◌, List, ℕ, ◌+◌, ◌/◌, length};
-ghost use Rattle.pack.specs.Layout.{four_bytes as layout_four_bytes};
+ghost use Rattle.pack.specs.Layout.{four_bytes};
 ghost use Rattle.pack.specs.Write.{profiles_of, ascending};
 
 use pack_order::before;
 
+// A pack has so many profiles at most.
+pub const MOST: usize = 256;
+
 // A number as four bytes, the low one first.
 pub fn four_bytes(number: u32) -> [u8; 4]
-    ensures { result ≡ layout_four_bytes number }
+    ensures { result ≡ four_bytes number }
 {
-    [
-        (number % 0x100) as u8,
-        (number / 0x100 % 0x100) as u8,
-        (number / 0x1_0000 % 0x100) as u8,
-        (number / 0x100_0000 % 0x100) as u8,
-    ]
+    number.to_le_bytes()
 }
 
 // The names in a slice ascend: 16 bytes each, with so many bytes between them, and as many as stand there whole.
@@ -28,17 +26,12 @@ pub fn ascends(names: &[u8], between: u8) -> bool
     let gap = between as usize;
     let apart = 16 + gap;
     let number = (names.len() + gap) / apart;
-    let mut i: usize = 0;
-    let mut first: usize = 0;
-    while i + 1 < number {
-        let first_end = first + 16;
+    for i in 0..number.saturating_sub(1) {
+        let first = apart * i;
         let next = first + apart;
-        let next_end = next + 16;
-        if !before(&names[first..first_end], &names[next..next_end]) {
+        if !before(&names[first..first + 16], &names[next..next + 16]) {
             return false;
         }
-        first = next;
-        i += 1;
     }
     true
 }

@@ -3,16 +3,19 @@
 use mathlib.Core.Path.{◌≡◌, refl, ap, sym, ◌∙◌}
 use mathlib.Core.Bool.{Bool, true, false, false≢true}
 use mathlib.Core.List.{List, [], ◌∷◌}
-use Prim.Native.Nat.{ℕ, ◌+◌, ◌<◌, ◌≤◌}
+use Prim.Native.Nat.{ℕ, zero, suc, min, ◌+◌, ◌<◌}
 use native.Mathlib.Numerals.{add-one}
 use native.Mathlib.Omega.{arith}
 use lib.Dec.{ltb}
-use lib.ListN.{length, get_or, drop, drop_of_length-le}
+use lib.ListN.{length, get_or, drop}
 use lib.Seq.{drop-cons}
 use borrow.Author.Tests.{ltb-true, ltb-false, lt-ltb, le-ltb}
-use Rattle.pack_order.specs.Order.{by_first, compared, is_equal, same}
-use Rattle.pack_order.specs.declared.Order.{Order}
-use Rattle.pack_order.specs.declared.Order.TheVariants.{Less, Equal, Greater}
+use Rattle.pack_order.specs.Order.{by_first, compared, same}
+use Rattle.std.specs.declared.cmp.Ordering.{Ordering}
+use Rattle.std.specs.declared.cmp.Ordering.TheVariants.{Less, Equal, Greater}
+use Rattle.std.specs.Ordering.{is_eq, nat_cmp, ordering_then}
+use Rattle.std.specs.Cmp.{nat_cmp_is}
+use Rattle.std.specs.FinMap.{nat_cmp-IsAntisymmetric}
 
 -- A byte string is the same as itself.
 pub compared_self : (xs : List ℕ) → compared xs xs ≡ Equal
@@ -74,34 +77,71 @@ less_less (x ∷ xs) (y ∷ ys) (z ∷ zs) e f = go (less_less xs ys zs) (ltb x 
         )
         (rest e f)
 
+-- Two numbers decide, or leave it to what follows them, as the library's order of numbers says.
+pub first_decides : (x y : ℕ) (rest : Ordering) → by_first (ltb x y) (ltb y x) rest ≡ ordering_then (nat_cmp x y) rest
+first_decides x y rest = go (ltb x y) refl (ltb y x) refl
+  where
+    go : (t : Bool) → ltb x y ≡ t → (u : Bool) → ltb y x ≡ u → by_first t u rest ≡ ordering_then (nat_cmp x y) rest
+    go true et u eu = rw (sym (nat_cmp_is x y Less (ltb-true x y et)))
+    go false et true eu = rw (sym (nat_cmp_is x y Greater (ltb-true y x eu)))
+    go false et false eu = rw (sym (nat_cmp_is x y Equal (omega (arith, ltb-false x y et, ltb-false y x eu))))
+
+-- Two numbers that differ decide, whatever follows; two that are the same leave it to what follows.
+pub decided : (x y : ℕ) (rest : Ordering) → (x ≡ y → ⊥) → ordering_then (nat_cmp x y) rest ≡ nat_cmp x y
+decided x y rest differ = go (nat_cmp x y) refl
+  where
+    go : (o : Ordering) → nat_cmp x y ≡ o → ordering_then o rest ≡ o
+    go Less e = refl
+    go Equal e = absurd (differ (nat_cmp-IsAntisymmetric x y e))
+    go Greater e = refl
+
+pub undecided : (x y : ℕ) (rest : Ordering) → x ≡ y → ordering_then (nat_cmp x y) rest ≡ rest
+undecided x y rest same = ap (λ (o : Ordering). ordering_then o rest) (sym (nat_cmp_is x y Equal same))
+
 -- Bytes number i decide, or leave it to those behind them.
 pub compared_at : (xs ys : List ℕ) (i : ℕ) → i < length xs → i < length ys →
-    compared (drop i xs) (drop i ys) ≡ by_first (ltb (get_or xs i 0) (get_or ys i 0)) (ltb (get_or ys i 0) (get_or xs i 0)) (compared (drop (i + 1) xs) (drop (i + 1) ys))
+    compared (drop i xs) (drop i ys) ≡ ordering_then (nat_cmp (get_or xs i 0) (get_or ys i 0)) (compared (drop (i + 1) xs) (drop (i + 1) ys))
 unfolding compared
-compared_at xs ys i hx hy = rw (drop-cons xs i 0 hx, drop-cons ys i 0 hy, add-one i)
+compared_at xs ys i hx hy = rw (drop-cons xs i 0 hx, drop-cons ys i 0 hy, add-one i) (first_decides (get_or xs i 0) (get_or ys i 0) (compared (drop (suc i) xs) (drop (suc i) ys)))
 
--- Where one has ended.
-pub compared_end : (xs ys : List ℕ) (i : ℕ) → i < length xs → length ys ≤ i → compared (drop i xs) (drop i ys) ≡ Greater
-unfolding compared
-compared_end xs ys i hx hy = rw (drop-cons xs i 0 hx, drop_of_length-le ys {i = i} hy)
+-- The order of two numbers is that of the next ones.
+next_order : (x y : ℕ) → nat_cmp (suc x) (suc y) ≡ nat_cmp x y
+next_order x y = go (ltb x y) refl (ltb y x) refl
+  where
+    go : (t : Bool) → ltb x y ≡ t → (u : Bool) → ltb y x ≡ u → nat_cmp (suc x) (suc y) ≡ nat_cmp x y
+    go true et u eu = sym (nat_cmp_is (suc x) (suc y) Less (omega (arith, ltb-true x y et))) ∙ nat_cmp_is x y Less (ltb-true x y et)
+    go false et true eu = sym (nat_cmp_is (suc x) (suc y) Greater (omega (arith, ltb-true y x eu))) ∙ nat_cmp_is x y Greater (ltb-true y x eu)
+    go false et false eu =
+        let here : x ≡ y = omega (arith, ltb-false x y et, ltb-false y x eu) in
+        sym (nat_cmp_is (suc x) (suc y) Equal (omega (arith, here))) ∙ nat_cmp_is x y Equal here
 
-pub compared_end_first : (xs ys : List ℕ) (i : ℕ) → length xs ≤ i → i < length ys → compared (drop i xs) (drop i ys) ≡ Less
+-- Where the shorter one has ended the lengths decide.
+pub compared_end : (xs ys : List ℕ) (i : ℕ) → i ≡ min (length xs) (length ys) → nat_cmp (length xs) (length ys) ≡ compared (drop i xs) (drop i ys)
 unfolding compared
-compared_end_first xs ys i hx hy = rw (drop-cons ys i 0 hy, drop_of_length-le xs {i = i} hx)
-
-pub compared_both_end : (xs ys : List ℕ) (i : ℕ) → length xs ≤ i → length ys ≤ i → compared (drop i xs) (drop i ys) ≡ Equal
-unfolding compared
-compared_both_end xs ys i hx hy = rw (drop_of_length-le ys {i = i} hy, drop_of_length-le xs {i = i} hx)
+compared_end [] [] zero e = refl
+compared_end [] [] (suc i) e = refl
+compared_end [] (y ∷ ys) i e = sym (nat_cmp_is 0 (suc (length ys)) Less (omega arith)) ∙ none i (omega arith)
+  where
+    none : (i : ℕ) → i ≡ 0 → Less ≡ compared (drop i []) (drop i (y ∷ ys))
+    none zero e = refl
+    none (suc i) e = absurd (omega arith)
+compared_end (x ∷ xs) [] i e = sym (nat_cmp_is (suc (length xs)) 0 Greater (omega arith)) ∙ none i (omega arith)
+  where
+    none : (i : ℕ) → i ≡ 0 → Greater ≡ compared (drop i (x ∷ xs)) (drop i [])
+    none zero e = refl
+    none (suc i) e = absurd (omega arith)
+compared_end (x ∷ xs) (y ∷ ys) zero e = absurd (omega arith)
+compared_end (x ∷ xs) (y ∷ ys) (suc i) e = next_order (length xs) (length ys) ∙ compared_end xs ys i (omega arith)
 
 -- ---- the test whether two are the same
 
 pub same_true : (xs ys : List ℕ) → xs ≡ ys → same xs ys ≡ true
-same_true xs ys e = ap is_equal (ap (compared xs) (sym e) ∙ compared_self xs)
+same_true xs ys e = ap is_eq (ap (compared xs) (sym e) ∙ compared_self xs)
 
 pub true_same : (xs ys : List ℕ) → same xs ys ≡ true → xs ≡ ys
 true_same xs ys e = go (compared xs ys) refl e
   where
-    go : (o : Order) → compared xs ys ≡ o → is_equal o ≡ true → xs ≡ ys
+    go : (o : Ordering) → compared xs ys ≡ o → is_eq o ≡ true → xs ≡ ys
     go Less eo e = absurd (false≢true e)
     go Equal eo e = equal_same xs ys eo
     go Greater eo e = absurd (false≢true e)

@@ -1,19 +1,25 @@
 -- Laws of bytes compared several at a time, as numbers: that compares them as byte strings.
 -- Assumes nothing.
-use mathlib.Core.Path.{◌≡◌, refl, sym}
+use mathlib.Core.Path.{◌≡◌, refl, sym, ◌∙◌}
 use mathlib.Core.Bool.{Bool, true, false}
 use mathlib.Core.List.{List, [], ◌∷◌}
 use Prim.Native.Nat.{ℕ, zero, suc, ◌+◌, ◌*◌, ◌<◌, ◌≤◌}
-use native.Mathlib.Numerals.{unary_clauses}
 use native.Mathlib.Omega.{arith}
 use lib.Dec.{ltb}
-use lib.ListN.{length, get_or, take, drop, length-drop}
-use lib.Seq.{drop-cons, drop-drop, get_or-drop}
+use lib.ListN.{length, get_or, take, drop}
+use lib.Seq.{length-take-le, get_or-drop}
 use mir.Syntax.{w8}
 use mir.Val.{Fits}
 use borrow.Author.Tests.{ltb-true, ltb-false, lt-ltb, le-ltb}
+use Rattle.std.specs.Int.{w64, from_be_bytes}
+use Rattle.std.specs.Ordering.{nat_cmp, ordering_then}
 use Rattle.pack_order.specs.Order.{by_first, compared}
-use Rattle.pack_order.specs.Word.{number_from, number_of, word_at}
+use Rattle.pack_order.proofs.Laws.{first_decides}
+
+-- A number with bytes behind it.
+abbrev number_from : ℕ → List ℕ → ℕ
+number_from n [] = n
+number_from n (x ∷ xs) = number_from (n * 256 + x) xs
 
 -- Behind a lesser number, as many bytes keep it lesser.
 lesser : (k n m : ℕ) (xs ys : List ℕ) → k ≤ length xs → k ≤ length ys → ((i : ℕ) → Fits w8 (get_or xs i 0)) → n < m → number_from n (take k xs) < number_from m (take k ys)
@@ -51,24 +57,29 @@ by_numbers (suc k) n (x ∷ xs) (y ∷ ys) hx hy known-x known-y =
         let first : x ≡ y = omega (arith, ltb-false x y et, ltb-false y x eu) in
         rw (sym first) rest
 
--- The word at i is the number of the eight bytes from there.
-word_taken : (xs : List ℕ) (i : ℕ) → i + 8 ≤ length xs → number_of (take 8 (drop i xs)) ≡ word_at xs i
-word_taken xs i h =
-    simp unary_clauses
-    (rw (
-      drop-cons xs i 0 (omega arith),
-      drop-cons xs (suc i) 0 (omega arith),
-      drop-cons xs (suc (suc i)) 0 (omega arith),
-      drop-cons xs (suc (suc (suc i))) 0 (omega arith),
-      drop-cons xs (suc (suc (suc (suc i)))) 0 (omega arith),
-      drop-cons xs (suc (suc (suc (suc (suc i))))) 0 (omega arith),
-      drop-cons xs (suc (suc (suc (suc (suc (suc i)))))) 0 (omega arith),
-      drop-cons xs (suc (suc (suc (suc (suc (suc (suc i))))))) 0 (omega arith),
-    ))
+-- The number of eight bytes, the first highest, is the library's.
+number_taken : (xs : List ℕ) → length xs ≡ 8 → number_from 0 xs ≡ from_be_bytes w64 xs
+number_taken [] h = absurd (omega arith)
+number_taken (a ∷ []) h = absurd (omega arith)
+number_taken (a ∷ b ∷ []) h = absurd (omega arith)
+number_taken (a ∷ b ∷ c ∷ []) h = absurd (omega arith)
+number_taken (a ∷ b ∷ c ∷ d ∷ []) h = absurd (omega arith)
+number_taken (a ∷ b ∷ c ∷ d ∷ e ∷ []) h = absurd (omega arith)
+number_taken (a ∷ b ∷ c ∷ d ∷ e ∷ f ∷ []) h = absurd (omega arith)
+number_taken (a ∷ b ∷ c ∷ d ∷ e ∷ f ∷ g ∷ []) h = absurd (omega arith)
+number_taken (a ∷ b ∷ c ∷ d ∷ e ∷ f ∷ g ∷ i ∷ []) h = omega arith
+number_taken (a ∷ b ∷ c ∷ d ∷ e ∷ f ∷ g ∷ i ∷ j ∷ xs) h = absurd (omega arith)
 
--- The words at i decide, or leave it to the bytes behind them.
-pub words_at : (xs ys : List ℕ) (i : ℕ) → i + 8 ≤ length xs → i + 8 ≤ length ys → ((j : ℕ) → Fits w8 (get_or xs j 0)) → ((j : ℕ) → Fits w8 (get_or ys j 0)) →
-    compared (drop i xs) (drop i ys) ≡ by_first (ltb (word_at xs i) (word_at ys i)) (ltb (word_at ys i) (word_at xs i)) (compared (drop (i + 8) xs) (drop (i + 8) ys))
-words_at xs ys i hx hy known-x known-y =
-    rw (sym (word_taken xs i hx), sym (word_taken ys i hy), sym (drop-drop 8 i xs), sym (drop-drop 8 i ys))
-    (by_numbers 8 0 (drop i xs) (drop i ys) (simp length-drop (omega arith)) (simp length-drop (omega arith)) (λ j. rw get_or-drop (known-x (i + j))) (λ j. rw get_or-drop (known-y (i + j))))
+-- The first eight bytes of each, as numbers, decide, or leave it to the bytes behind them.
+pub by_words : (xs ys : List ℕ) → 8 ≤ length xs → 8 ≤ length ys → ((i : ℕ) → Fits w8 (get_or xs i 0)) → ((i : ℕ) → Fits w8 (get_or ys i 0)) →
+    compared xs ys ≡ ordering_then (nat_cmp (from_be_bytes w64 (take 8 xs)) (from_be_bytes w64 (take 8 ys))) (compared (drop 8 xs) (drop 8 ys))
+by_words xs ys hx hy known-x known-y =
+    let x = number_taken (take 8 xs) (length-take-le 8 xs hx) in
+    let y = number_taken (take 8 ys) (length-take-le 8 ys hy) in
+    by_numbers 8 0 xs ys hx hy known-x known-y
+    ∙ first_decides (number_from 0 (take 8 xs)) (number_from 0 (take 8 ys)) (compared (drop 8 xs) (drop 8 ys))
+    ∙ (λ k. ordering_then (nat_cmp (x k) (y k)) (compared (drop 8 xs) (drop 8 ys)))
+
+-- Bytes behind bytes are bytes.
+pub known_behind : (xs : List ℕ) (n : ℕ) → ((i : ℕ) → Fits w8 (get_or xs i 0)) → (i : ℕ) → Fits w8 (get_or (drop n xs) i 0)
+known_behind xs n known i = rw get_or-drop (known (n + i))

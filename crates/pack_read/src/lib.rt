@@ -2,18 +2,33 @@
 
 #![tactic(auto)]
 
-ghost use Rattle.std.specs.Prelude.{◌≡◌, ◌*◌, ◌<◌, ◌≤◌, length};
+ghost use Rattle.std.specs.Prelude.{◌≡◌, ◌*◌, ◌<◌, ◌≤◌, length, MatchOption};
 ghost use Rattle.pack_order.specs.Order.{same as order_same};
 ghost use Rattle.pack.specs.Layout.{trailer};
-ghost use Rattle.pack.specs.Outcome.{numbered};
+ghost use Rattle.pack.specs.Outcome.{numbered, answered};
 ghost use Rattle.pack.specs.Read.{count_in, is_pack as read_is_pack, reading, name_in, body_in};
 ghost use Rattle.pack_read.specs.Offsets.{offsets_from};
+ghost use Rattle.pack_read.specs.declared.ReadError.TheVariants.{NotAPack};
 
-use pack_fields::{ascends, four_bytes};
+use pack_fields::{MOST, ascends, four_bytes};
 use pack_order::same;
 
-// A pack has so many profiles at most.
-const MOST: usize = 256;
+// Why no number of profiles is answered.
+#[derive(Clone, Copy, Debug, PartialEq, Eq)]
+pub enum ReadError {
+    NotAPack,
+}
+
+// The number of the refusal.
+impl From<ReadError> for u32 {
+    ghost from_gives = { λ _ number. number ≡ 14 };
+
+    fn from(error: ReadError) -> u32 {
+        match error {
+            ReadError::NotAPack => 14,
+        }
+    }
+}
 
 // How many profiles a pack of this length has; 0 where no pack has it.
 pub fn count(pack: &[u8]) -> usize
@@ -51,14 +66,12 @@ fn has_offsets(index: &[u8], number: usize) -> bool
     requires { (length index.now ≡ 20 * number) × (number ≤ 256) }
     ensures { result ≡ offsets_from 0 number index.now }
 {
-    let mut i: usize = 0;
-    while i < number {
+    for i in 0..number {
         let at = 20 * i + 16;
         let end = at + 4;
         if !same(&index[at..end], &four_bytes(32 * i as u32)) {
             return false;
         }
-        i += 1;
     }
     true
 }
@@ -82,37 +95,47 @@ pub fn is_pack(pack: &[u8]) -> bool
     ascends(&pack[index..trailer], 4)
 }
 
-// The number of profiles, or 14.
-pub fn read(pack: &[u8]) -> u32
-    ensures { result ≡ numbered length (reading pack.now) }
+// The number of profiles.
+pub fn read(pack: &[u8]) -> Result<usize, ReadError>
+    ensures { result ≡ answered length (λ _. NotAPack) (reading pack.now) }
 {
     if !is_pack(pack) {
-        return 14;
+        return Err(ReadError::NotAPack);
     }
-    0x100 * count(pack) as u32
+    Ok(count(pack))
 }
 
-// Name number i as a part of the pack, and the empty part where there is none. Looks at the length alone, not at whether the bytes are a pack.
-pub fn name<'a>(pack: &'a [u8], i: usize) -> &'a [u8]
-    ensures { result.now ≡ name_in pack.now i }
+// The same as one number, for C: the number of profiles in the bits above 7-0, or 14.
+pub fn read_number(pack: &[u8]) -> u32
+    ensures { result ≡ numbered length (reading pack.now) }
+{
+    match read(pack) {
+        Ok(number) => 0x100 * number as u32,
+        Err(error) => u32::from(error),
+    }
+}
+
+// Name number i as a part of the pack, if there is one. Looks at the length alone, not at whether the bytes are a pack.
+pub fn name(pack: &[u8], i: usize) -> Option<&[u8]>
+    ensures { MatchOption result (count_in pack.now ≤ i) (λ part. (i < count_in pack.now) × (part.now ≡ name_in pack.now i)) }
 {
     let number = count(pack);
     if i >= number {
-        return &pack[0..0];
+        return None;
     }
     let start = 32 * number + 20 * i;
     let end = start + 16;
-    &pack[start..end]
+    Some(&pack[start..end])
 }
 
 // Body number i, likewise.
-pub fn body<'a>(pack: &'a [u8], i: usize) -> &'a [u8]
-    ensures { result.now ≡ body_in pack.now i }
+pub fn body(pack: &[u8], i: usize) -> Option<&[u8]>
+    ensures { MatchOption result (count_in pack.now ≤ i) (λ part. (i < count_in pack.now) × (part.now ≡ body_in pack.now i)) }
 {
     if i >= count(pack) {
-        return &pack[0..0];
+        return None;
     }
     let start = 32 * i;
     let end = start + 32;
-    &pack[start..end]
+    Some(&pack[start..end])
 }

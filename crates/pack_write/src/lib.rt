@@ -4,14 +4,36 @@
 
 ghost use Rattle.std.specs.Prelude.{◌≡◌, List, ℕ, ◌+◌, ◌*◌, ◌≤◌, length};
 ghost use Rattle.pack.specs.Layout.{index, trailer};
-ghost use Rattle.pack.specs.Outcome.{numbered};
+ghost use Rattle.pack.specs.Outcome.{numbered, answered};
 ghost use Rattle.pack.specs.Write.{profiles_of, writing, filled};
 ghost use Rattle.pack_write.specs.Puts.{Puts};
+ghost use Rattle.pack_write.specs.Errors.{error_of, number_of};
 
-use pack_fields::{ascends, four_bytes};
+use pack_fields::{MOST, ascends, four_bytes};
 
-// A pack has so many profiles at most.
-const MOST: usize = 256;
+// Why a pack was not written, in the order in which it is tested: names and bodies do not pair up, more than 256 profiles, names that do not ascend, less
+// room than the pack takes.
+#[derive(Clone, Copy, Debug, PartialEq, Eq)]
+pub enum WriteError {
+    NotPaired,
+    TooMany,
+    NotAscending,
+    TooShort,
+}
+
+// The number of the refusal.
+impl From<WriteError> for u32 {
+    ghost from_gives = { λ error number. number ≡ number_of error };
+
+    fn from(error: WriteError) -> u32 {
+        match error {
+            WriteError::NotPaired => 16,
+            WriteError::TooMany => 17,
+            WriteError::NotAscending => 18,
+            WriteError::TooShort => 19,
+        }
+    }
+}
 
 // Puts a piece into a buffer from `at` on. Answers where it ends, as the two below do.
 fn put(buffer: &mut [u8], at: usize, piece: &[u8]) -> usize
@@ -31,13 +53,11 @@ fn put_index(buffer: &mut [u8], at: usize, names: &[u8], number: usize) -> usize
         Puts (index 0 (profiles_of 16 number names.now bodies)) buffer.old at buffer.new result }
 {
     let mut place = at;
-    let mut i: usize = 0;
-    while i < number {
+    for i in 0..number {
         let start = 16 * i;
         let end = start + 16;
         place = put(buffer, place, &names[start..end]);
         place = put(buffer, place, &four_bytes(32 * i as u32));
-        i += 1;
     }
     place
 }
@@ -52,32 +72,43 @@ fn put_trailer(buffer: &mut [u8], at: usize, number: usize) -> usize
     put(buffer, mark_at, b"RC53")
 }
 
-// Writes the pack to the front of the buffer, and answers its length; later bytes stay. A refusal, 16 to 19 in this order, leaves all as it was.
-pub fn write(names: &[u8], bodies: &[u8], buffer: &mut [u8]) -> u32
+// Writes the pack to the front of the buffer, and answers its length; later bytes stay. An error leaves all as it was.
+pub fn write(names: &[u8], bodies: &[u8], buffer: &mut [u8]) -> Result<usize, WriteError>
     ensures { let outcome = writing names.now bodies.now (length buffer.old) in
-        (result ≡ numbered length outcome) × (buffer.new ≡ filled outcome buffer.old) }
+        (result ≡ answered length error_of outcome) × (buffer.new ≡ filled outcome buffer.old) }
 {
     let number = bodies.len() / 32;
     if bodies.len() % 32 != 0 {
-        return 16;
+        return Err(WriteError::NotPaired);
     }
     if names.len() % 16 != 0 {
-        return 16;
+        return Err(WriteError::NotPaired);
     }
     if names.len() / 16 != number {
-        return 16;
+        return Err(WriteError::NotPaired);
     }
     if number > MOST {
-        return 17;
+        return Err(WriteError::TooMany);
     }
     if !ascends(names, 0) {
-        return 18;
+        return Err(WriteError::NotAscending);
     }
     if buffer.len() < 52 * number + 12 {
-        return 19;
+        return Err(WriteError::TooShort);
     }
     let index_at = put(buffer, 0, bodies);
     let trailer_at = put_index(buffer, index_at, names, number);
     let size = put_trailer(buffer, trailer_at, number);
-    0x100 * size as u32
+    Ok(size)
+}
+
+// The same as one number, for C: the length in the bits above 7-0, or 16 to 19.
+pub fn write_number(names: &[u8], bodies: &[u8], buffer: &mut [u8]) -> u32
+    ensures { let outcome = writing names.now bodies.now (length buffer.old) in
+        (result ≡ numbered length outcome) × (buffer.new ≡ filled outcome buffer.old) }
+{
+    match write(names, bodies, buffer) {
+        Ok(size) => 0x100 * size as u32,
+        Err(error) => u32::from(error),
+    }
 }

@@ -5,7 +5,4 @@ use Rattle.pack.specs.Find.{halving, halved}
 use Rattle.pack_find.proofs.find_checked.Given as goal
 
 abbrev pub invariant-loop-comparisons : goal.invariant-loop-comparisons
-invariant-loop-comparisons l = (l.comparisons ≤ 9) × (l.high ≤ count_in l.pack) × (halved l.pack l.name ≡ halving (9 - l.comparisons) l.pack l.name l.low l.high)
-
-abbrev pub decreases-loop-comparisons : goal.decreases-loop-comparisons
-decreases-loop-comparisons l = 9 - l.comparisons
+invariant-loop-comparisons l = (l.high ≤ count_in l.pack) × (halved l.pack l.name ≡ halving (9 - l.comparisons) l.pack l.name l.low l.high)

@@ -1,55 +1,35 @@
--- `pack_order::compare` meets its contract: the bytes before i are the same in both. Assumes nothing.
-use borrow.Author.Tests.{lt-ltb, le-ltb}
-use mathlib.Core.Path.{◌≡◌, refl, sym, ◌∙◌}
-use Prim.Native.Nat.{◌+◌}
-use native.Mathlib.Omega.{arith}
-use lib.Dec.{ltb}
-use lib.ListN.{drop}
-use Rattle.pack_order.specs.Order.{by_first, compared}
-use Rattle.pack_order.proofs.Words.{words_at}
+-- `pack_order::compare` meets its contract: the bytes before those that are left are the same in both. Assumes nothing.
+use Rattle.std.proofs.Common.{rules, sym, ◌∙◌, ◌≡◌, ℕ, subst}
+use mathlib.Core.List.{List}
+use lib.ListN.{drop, get_or}
+use mir.Syntax.{w8}
+use mir.Val.{Fits}
+use Rattle.std.specs.Ordering.{nat_cmp, ordering_then}
+use Rattle.pack_order.specs.Order.{compared}
+use Rattle.pack_order.proofs.Laws.{decided, undecided}
+use Rattle.pack_order.proofs.Words.{by_words, known_behind}
 use Rattle.pack_order.proofs.compare.Goals as goal
-use Rattle.pack_order.proofs.compare.Goals.{After-word-right}
+use Rattle.pack_order.proofs.compare.Goals.{After-from_be_bytes-right_word}
 
--- The numbers that `word` answers decide, or leave it to the bytes behind them.
-decide :
-    (c : After-word-right) →
-    let a = c.args.a.now in
-    let b = c.args.b.now in
-    let left = c.word-left.result in
-    let right = c.word-right.result in
-    by_first (ltb left right) (ltb right left) (compared (drop (c.loop-i.i + 8) a) (drop (c.loop-i.i + 8) b)) ≡ compared a b
+-- The numbers of the first eight bytes decide, or leave it to the bytes behind them.
+decide : (c : After-from_be_bytes-right_word) →
+    ordering_then (nat_cmp c.from_be_bytes-left_word.result c.from_be_bytes-right_word.result) (compared c.in-Some-Some.xs.now c.in-Some-Some.ys.now) ≡ compared c.args.a.now c.args.b.now
 decide c =
-    let a = c.args.a.now in
-    let b = c.args.b.now in
-    rw (c.word-left.ensures, c.word-right.ensures)
-    (sym (words_at a b c.loop-i.i (omega arith) (omega arith) c.shared_slice_known-1.given c.shared_slice_known-2-1.given) ∙ c.loop-i.invariant.1)
+    let words = by_words c.loop-x.left.now c.loop-x.right.now (search rules) (search rules) c.loop-x.invariant.1 c.loop-x.invariant.2 in
+    search rules
 
-pub loop-i-init : goal.loop-i-init
-loop-i-init c = (omega arith, refl)
+pub returns-then-left_word-right_word : goal.returns-then-left_word-right_word
+returns-then-left_word-right_word c =
+    c.cmp.ensures ∙ sym (decided c.from_be_bytes-left_word.result c.from_be_bytes-right_word.result (compared c.in-Some-Some.xs.now c.in-Some-Some.ys.now) c.if-left_word-right_word.true)
+    ∙ decide (goal.at.returns-then-left_word-right_word c).After-from_be_bytes-right_word
 
-pub word-left-requires : goal.word-left-requires
-word-left-requires c = omega arith
-
-pub word-right-requires : goal.word-right-requires
-word-right-requires c = omega arith
-
-pub returns-then-left-right : goal.returns-then-left-right
-returns-then-left-right c = simp (lt-ltb _ _ c.if-left-right.true) at (decide (goal.at.returns-then-left-right c).After-word-right)
-
-pub returns-then-left-right-2 : goal.returns-then-left-right-2
-returns-then-left-right-2 c = simp (le-ltb _ _ c.if-left-right.false, lt-ltb _ _ c.if-left-right-2.true) at (decide (goal.at.returns-then-left-right-2 c).After-word-right)
-
-pub overflow_add-i : goal.overflow_add-i
-overflow_add-i c = omega arith
-
-pub loop-i-smaller : goal.loop-i-smaller
-loop-i-smaller c = omega arith
-
-pub loop-i-preserved : goal.loop-i-preserved
-loop-i-preserved c = (
-  omega arith,
-  simp (le-ltb _ _ c.if-left-right.false, le-ltb _ _ c.if-left-right-2.false) at (decide (goal.at.loop-i-preserved c).After-word-right),
-)
-
-pub returns : goal.returns
-returns c = c.compare_bytes.ensures ∙ c.loop-i.invariant.1
+pub loop-x-preserved : goal.loop-x-preserved
+loop-x-preserved c =
+    let known : List ℕ → Type 0 = λ l. (i : ℕ) → Fits w8 (get_or l i 0) in
+    let xs : c.in-Some-Some.xs.now ≡ drop 8 c.loop-x.left.now = search rules in
+    let ys : c.in-Some-Some.ys.now ≡ drop 8 c.loop-x.right.now = search rules in (
+      sym (undecided c.from_be_bytes-left_word.result c.from_be_bytes-right_word.result (compared c.in-Some-Some.xs.now c.in-Some-Some.ys.now) c.if-left_word-right_word.false)
+          ∙ decide (goal.at.loop-x-preserved c).After-from_be_bytes-right_word,
+      subst known (sym xs) (known_behind c.loop-x.left.now 8 c.loop-x.invariant.1),
+      subst known (sym ys) (known_behind c.loop-x.right.now 8 c.loop-x.invariant.2),
+    )

@@ -1,45 +1,34 @@
--- `pack_order::compare_bytes` meets its contract: the bytes from its place to i are the same in both. Assumes nothing.
-use borrow.Author.Rules.{rules}
-use borrow.Author.Tests.{lt-ltb, le-ltb}
-use mathlib.Core.Path.{refl, sym, ◌∙◌}
-use Rattle.pack_order.proofs.Laws.{compared_at, compared_end, compared_end_first, compared_both_end}
+-- `pack_order::compare_bytes` meets its contract: the bytes that were yielded are the same in both. Assumes nothing.
+use Rattle.std.proofs.Common.{rules, ◌+◌, length, ◌∙◌}
+use Rattle.std.proofs.lemmas.Slice.Zip.{zip_turn, zip_end}
+use lib.ListN.{drop, length-append}
+use Rattle.pack_order.specs.Order.{compared}
+use Rattle.pack_order.proofs.Laws.{decided, undecided, compared_at, compared_end}
 use Rattle.pack_order.proofs.compare_bytes.Goals as goal
 
-pub loop-i-init : goal.loop-i-init
-loop-i-init c = refl
+pub returns-then-x-y : goal.returns-then-x-y
+returns-then-x-y c =
+    let xs = c.args.a.now in
+    let ys = c.args.b.now in
+    let i = length c.loop-x.yielded in
+    let turn = zip_turn xs ys c.loop-x.yielded c.into_iter-x-iterator.result c.loop-x.x-iterator c.next.new.self c.next.result (search rules) (search rules) c.loop-x.yielded_by (c.in-Some.x, c.in-Some.y) c.in-Some.is c.next.ensures.steps in
+    let first = compared_at xs ys i turn.0 turn.1 in
+    let told = decided c.in-Some.x.now c.in-Some.y.now (compared (drop (i + 1) xs) (drop (i + 1) ys)) c.if-x-y.true in
+    search rules
 
-pub returns-then-i-b : goal.returns-then-i-b
-returns-then-i-b c =
-    let turn = c.before.before in
-    let a = turn.args in
-    sym (compared_end a.a.now a.b.now turn.loop-i.i (search rules) (search rules)) ∙ turn.loop-i.invariant
-
-pub returns-then-a-i : goal.returns-then-a-i
-returns-then-a-i c =
-    let turn = c.before.before.before.before.before in
-    let a = turn.args in
-    sym (compared_at a.a.now a.b.now turn.loop-i.i (search rules) (search rules) ∙ simp (lt-ltb _ _ c.if-a-i.true)) ∙ turn.loop-i.invariant
-
-pub returns-then-a-i-2 : goal.returns-then-a-i-2
-returns-then-a-i-2 c =
-    let turn = c.before.before.before.before.before.before.before.before in
-    let a = turn.args in
-    sym (compared_at a.a.now a.b.now turn.loop-i.i (search rules) (search rules) ∙ simp (le-ltb _ _ c.if-a-i.false, lt-ltb _ _ c.if-a-i-2.true)) ∙ turn.loop-i.invariant
-
-pub loop-i-preserved : goal.loop-i-preserved
-loop-i-preserved c =
-    let turn = c.before.before.before.before.before.before.before.before in
-    let a = turn.args in
-    sym (compared_at a.a.now a.b.now turn.loop-i.i (search rules) (search rules) ∙ simp (le-ltb _ _ c.if-a-i.false, le-ltb _ _ c.if-a-i-2.false)) ∙ turn.loop-i.invariant
-
-pub returns-then-i-b-2 : goal.returns-then-i-b-2
-returns-then-i-b-2 c =
-    let end = c.before.before in
-    let a = end.args in
-    sym (compared_end_first a.a.now a.b.now end.loop-i.i (search rules) (search rules)) ∙ end.loop-i.invariant
+pub loop-x-preserved : goal.loop-x-preserved
+loop-x-preserved c =
+    let xs = c.args.a.now in
+    let ys = c.args.b.now in
+    let i = length c.loop-x.yielded in
+    let turn = zip_turn xs ys c.loop-x.yielded c.into_iter-x-iterator.result c.loop-x.x-iterator c.next.new.self c.next.result (search rules) (search rules) c.loop-x.yielded_by (c.in-Some.x, c.in-Some.y) c.in-Some.is c.next.ensures.steps in
+    let first = compared_at xs ys i turn.0 turn.1 in
+    let told = undecided c.in-Some.x.now c.in-Some.y.now (compared (drop (i + 1) xs) (drop (i + 1) ys)) c.if-x-y.false in
+    rw length-append (search rules)
 
 pub returns : goal.returns
 returns c =
-    let end = c.before.before in
-    let a = end.args in
-    sym (compared_both_end a.a.now a.b.now end.loop-i.i (search rules) (search rules)) ∙ end.loop-i.invariant
+    let xs = c.args.a.now in
+    let ys = c.args.b.now in
+    let end = zip_end xs ys c.loop-x.yielded c.into_iter-x-iterator.result c.loop-x.x-iterator c.next.new.self c.next.result (search rules) (search rules) c.loop-x.yielded_by c.in-None.is c.next.ensures.steps in
+    c.cmp-2.ensures ∙ compared_end xs ys (length c.loop-x.yielded) end ∙ c.loop-x.invariant

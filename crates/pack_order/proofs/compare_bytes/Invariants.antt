@@ -1,11 +1,6 @@
-use mathlib.Core.Path.{◌≡◌}
-use Prim.Native.Nat.{◌-◌}
-use lib.ListN.{length, drop}
+use Rattle.std.proofs.Common.{◌≡◌, length, drop}
 use Rattle.pack_order.specs.Order.{compared}
 use Rattle.pack_order.proofs.compare_bytes.Given as goal
 
-abbrev pub invariant-loop-i : goal.invariant-loop-i
-invariant-loop-i l = compared (drop l.i l.a) (drop l.i l.b) ≡ compared (drop l.from l.a) (drop l.from l.b)
-
-abbrev pub decreases-loop-i : goal.decreases-loop-i
-decreases-loop-i l = length l.a - l.i
+abbrev pub invariant-loop-x : goal.invariant-loop-x
+invariant-loop-x l = compared (drop (length l.yielded) l.a) (drop (length l.yielded) l.b) ≡ compared l.a l.b

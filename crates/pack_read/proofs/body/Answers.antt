@@ -1,19 +1,13 @@
 -- `pack_read::body` meets its contract. Assumes nothing.
 use borrow.Author.Rules.{rules}
-use borrow.Author.Tests.{lt-ltb, le-ltb}
+use borrow.Author.Tests.{lt-ltb}
 use mathlib.Core.Path.{◌≡◌, sym, ap, ◌∙◌}
 use native.Mathlib.Omega.{arith}
-use Prim.Native.Nat.{ℕ, ◌+◌, ◌-◌, ◌*◌}
+use Prim.Native.Nat.{ℕ, ◌+◌, ◌-◌, ◌*◌, ◌<◌}
 use lib.ListN.{take, drop}
 use Rattle.pack.specs.Read.{count_in, body_in}
 use Rattle.pack.proofs.Count.{count_size}
 use Rattle.pack_read.proofs.body.Goals as goal
-
-pub returns-then-i-count : goal.returns-then-i-count
-unfolding body_in
-returns-then-i-count c =
-    let a = c.args in
-    sym (simp (le-ltb a.i (count_in a.pack.now) (omega (arith, c.count.ensures))))
 
 pub overflow_mul-start : goal.overflow_mul-start
 overflow_mul-start c =
@@ -29,8 +23,8 @@ overflow_add-end c =
     let size = count_size a.pack.now a.i (omega (arith, call.ensures)) in
     search rules
 
-pub slice_bounds-result-end-2 : goal.slice_bounds-result-end-2
-slice_bounds-result-end-2 c =
+pub slice_bounds-result-end : goal.slice_bounds-result-end
+slice_bounds-result-end c =
     let a = c.args in
     let call = c.count in
     let size = count_size a.pack.now a.i (omega (arith, call.ensures)) in
@@ -41,5 +35,7 @@ unfolding body_in
 returns c =
     let a = c.args in
     let size : 32 * a.i + 32 - 32 * a.i ≡ 32 = omega arith in
-    ap (λ (k : ℕ). take k (drop (32 * a.i) a.pack.now)) size
-    ∙ sym (simp (lt-ltb a.i (count_in a.pack.now) (omega (arith, c.count.ensures))))
+    let within : a.i < count_in a.pack.now = omega (arith, c.count.ensures) in (
+      within,
+      ap (λ (k : ℕ). take k (drop (32 * a.i) a.pack.now)) size ∙ sym (simp (lt-ltb a.i (count_in a.pack.now) within)),
+    )

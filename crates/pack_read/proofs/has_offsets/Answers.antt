@@ -20,33 +20,28 @@ judged index i answer offset is =
     sym (is ∙ (λ k. same (take (size k) (drop (20 * i + 16) index)) (offset k)))
 
 pub loop-i-init : goal.loop-i-init
-loop-i-init c = (omega arith, ap (λ (k : ℕ). offsets_from 0 k c.args.index.now) (sym (sub-zero c.args.number)))
+loop-i-init c = ap (λ (k : ℕ). offsets_from 0 k c.args.index.now) (sym (sub-zero c.args.number))
 
 pub returns-then-not-same : goal.returns-then-not-same
 returns-then-not-same c =
-    let turn = c.before.before.before.before.before.before in
-    let a = turn.args in
-    let i = turn.loop-i.i in
+    let a = c.args in
+    let i = c.loop-i.i in
     let told = judged a.index.now i c.same.result c.four_bytes.ensures c.same.ensures ∙ c.if-not-same.true in
-    sym (turn.loop-i.invariant.1 ∙ offsets_step (32 * i) a.number i a.index.now (omega arith) ∙ ap (λ (t : Bool). t && offsets_from (32 * i + 32) (a.number - (i + 1)) (drop (20 * (i + 1)) a.index.now)) told)
+    sym (c.loop-i.invariant ∙ offsets_step (32 * i) a.number i a.index.now (omega arith) ∙ ap (λ (t : Bool). t && offsets_from (32 * i + 32) (a.number - (i + 1)) (drop (20 * (i + 1)) a.index.now)) told)
 
 pub loop-i-preserved : goal.loop-i-preserved
 loop-i-preserved c =
-    let turn = c.before.before.before.before.before.before in
-    let a = turn.args in
-    let i = turn.loop-i.i in
+    let a = c.args in
+    let i = c.loop-i.i in
     let told = judged a.index.now i c.same.result c.four_bytes.ensures c.same.ensures ∙ c.if-not-same.false in
-    let next : 32 * i + 32 ≡ 32 * (i + 1) = omega arith in (
-      omega arith,
-      turn.loop-i.invariant.1
-          ∙ offsets_step (32 * i) a.number i a.index.now (omega arith)
-          ∙ (λ k. told k && offsets_from (next k) (a.number - (i + 1)) (drop (20 * (i + 1)) a.index.now)),
-    )
+    let next : 32 * i + 32 ≡ 32 * (i + 1) = omega arith in
+    c.loop-i.invariant
+    ∙ offsets_step (32 * i) a.number i a.index.now (omega arith)
+    ∙ (λ k. told k && offsets_from (next k) (a.number - (i + 1)) (drop (20 * (i + 1)) a.index.now))
 
 pub returns : goal.returns
 unfolding offsets_from
 returns c =
-    let end = c.before in
-    let a = end.args in
-    let none : a.number - end.loop-i.i ≡ 0 = omega arith in
-    sym (end.loop-i.invariant.1 ∙ ap (λ (k : ℕ). offsets_from (32 * end.loop-i.i) k (drop (20 * end.loop-i.i) a.index.now)) none)
+    let a = c.args in
+    let none : a.number - c.loop-i.i ≡ 0 = omega arith in
+    sym (c.loop-i.invariant ∙ ap (λ (k : ℕ). offsets_from (32 * c.loop-i.i) k (drop (20 * c.loop-i.i) a.index.now)) none)

@@ -10,17 +10,16 @@ use Rattle.pack_write.proofs.put_index.Goals as goal
 
 pub loop-i-init : goal.loop-i-init
 unfolding profiles_of index
-loop-i-init c = (search rules, search rules, refl, λ bodies. record { bytes = refl; end = search rules })
+loop-i-init c = (search rules, refl, λ bodies. record { bytes = refl; end = search rules })
 
 pub loop-i-preserved : goal.loop-i-preserved
 loop-i-preserved c =
     let a = c.args in (
       search rules,
       search rules,
-      search rules,
       λ bodies.
           as_piece (entry_next c.loop-i.i a.names.now bodies c.four_bytes.ensures)
-          (put_both (c.loop-i.invariant.3 bodies) (put_both c.put-place.ensures c.put-place-in-loop-i.ensures)),
+          (put_both (c.loop-i.invariant.2 bodies) (put_both c.put-place.ensures c.put-place-in-loop-i.ensures)),
     )
 
 pub returns : goal.returns
@@ -29,5 +28,5 @@ returns c =
     let all : c.loop-i.i ≡ a.number = omega arith in
     record {
       value = search rules;
-      by_index = λ bodies. as_piece (ap (λ (n : ℕ). index 0 (profiles_of 16 n a.names.now bodies)) all) (c.loop-i.invariant.3 bodies);
+      by_index = λ bodies. as_piece (ap (λ (n : ℕ). index 0 (profiles_of 16 n a.names.now bodies)) all) (c.loop-i.invariant.2 bodies);
     }

@@ -19,7 +19,7 @@ ghost use Rattle.entry_in_place.specs.Numbers.{judged_for, choice_number};
 
 use edition::{Edition, MFRC531, RC530};
 use profile::check;
-use profile_choice::Choice;
+use profile_choice::{Choice, Refusal};
 use profile_number::verdict_number;
 use state::{Chip, Coded};
 
@@ -102,10 +102,10 @@ pub fn mfrc531_choose(user: &[u8], rescue: &[u8]) -> u32
     ensures { result ≡ choice_number (chosen user.now rescue.now) }
 {
     match profile_choice::choose(user, rescue) {
-        Choice::User => 0x100,
-        Choice::Rescue => 0x200,
-        Choice::ImageLength => 2,
-        Choice::BothFail => 8,
+        Ok(Choice::User(_)) => 0x100,
+        Ok(Choice::Rescue(_)) => 0x200,
+        Err(Refusal::ImageLength) => 2,
+        Err(Refusal::BothFail) => 8,
     }
 }
 

@@ -2,8 +2,8 @@
 -- and 11.3.
 -- Assumes nothing.
 use Rattle.std.specs.Prelude.{ℕ, Bool, true, false, cond}
-use Rattle.profile.specs.declared.Verdict.{Verdict}
-use Rattle.profile.specs.declared.Verdict.TheVariants.{Pass, Refused}
+use Rattle.std.specs.declared.result.Result.{Result}
+use Rattle.std.specs.declared.result.Result.TheVariants.{Ok, Err}
 use Rattle.profile.specs.declared.Refusal.{Refusal}
 use Rattle.profile.specs.declared.Refusal.TheVariants.{Length, FixedBit, PreScaler, Reload, WaterLevel}
 
@@ -34,6 +34,6 @@ refusal_answer (PreScaler register) = refuse_at 11 register
 refusal_answer (Reload register) = refuse_at 12 register
 refusal_answer (WaterLevel register) = refuse_at 13 register
 
-abbrev pub answer_of : Verdict → Answer
-answer_of Pass = pass
-answer_of (Refused refusal) = refusal_answer refusal
+abbrev pub answer_of : Result Unit Refusal → Answer
+answer_of (Ok done) = pass
+answer_of (Err refusal) = refusal_answer refusal

@@ -2,15 +2,15 @@
 
 #![tactic(auto)]
 
-ghost use Rattle.std.specs.Prelude.{◌≡◌, ◌<◌, length};
+ghost use Rattle.std.specs.Prelude.{◌≡◌, ◌<◌, ◌≤◌, length};
 ghost use Rattle.profile.specs.Answer.{answer_of};
 ghost use Rattle.edition.specs.Edition.{fixed_bits};
-ghost use Rattle.profile.specs.Check.{differs_at, above_limit as check_above_limit, reload_refused as check_reload_refused, value_judged, judged};
+ghost use Rattle.profile.specs.Check.{differs_at, above_limit as check_above_limit, reload_refused as check_reload_refused, fixed_bits_judged, value_judged, judged};
 
 use edition::{Edition, FixedBits, fixed_bits};
 
 // Why a profile is refused, with the address of the register where one is named.
-#[derive(Drop)]
+#[derive(Clone, Copy, Debug, PartialEq, Eq)]
 pub enum Refusal {
     // 9: the profile is not 32 bytes.
     Length,
@@ -22,12 +22,6 @@ pub enum Refusal {
     Reload { register: u8 },
     // 13: WaterLevel is above 31.
     WaterLevel { register: u8 },
-}
-
-#[derive(Drop)]
-pub enum Verdict {
-    Pass,
-    Refused(Refusal),
 }
 
 // Bit `bit` is fixed, and the byte has it at the other value.
@@ -71,48 +65,50 @@ fn reload_refused(register: u8, control: u8, reload: u8) -> bool
     control / 2 % 2 == 1
 }
 
+// The verdict on the fixed bits of a register: the lowest that differs is named.
+fn fixed_bits_verdict(edition: Edition, profile: &[u8], register: u8) -> Result<(), Refusal>
+    requires { (length profile.now ≡ 32) × (0x10 ≤ register) × (register < 0x30) }
+    ensures { answer_of result ≡ fixed_bits_judged (fixed_bits edition) profile.now register }
+{
+    let position = (register - 0x10) as usize;
+    let fixed = fixed_bits(edition, position);
+    let byte = profile[position];
+    for bit in 0..8 {
+        if differs(fixed, byte, bit) {
+            return Err(Refusal::FixedBit { register, bit });
+        }
+    }
+    Ok(())
+}
+
 // The verdict on the values at a register whose fixed bits hold.
-fn value_verdict(profile: &[u8], register: u8) -> Verdict
+fn value_verdict(profile: &[u8], register: u8) -> Result<(), Refusal>
     requires { length profile.now ≡ 32 }
     ensures { answer_of result ≡ value_judged profile.now register }
 {
     if above_limit(0x29, register, profile[0x29 - 0x10] % 64, 31) {
-        return Verdict::Refused(Refusal::WaterLevel { register: register });
+        return Err(Refusal::WaterLevel { register });
     }
     if above_limit(0x2A, register, profile[0x2A - 0x10] % 32, 21) {
-        return Verdict::Refused(Refusal::PreScaler { register: register });
+        return Err(Refusal::PreScaler { register });
     }
     if reload_refused(register, profile[0x2B - 0x10], profile[0x2C - 0x10]) {
-        return Verdict::Refused(Refusal::Reload { register: register });
+        return Err(Refusal::Reload { register });
     }
-    Verdict::Pass
+    Ok(())
 }
 
 // The verdict on any bytes, for a chip of an edition.
-pub fn check(edition: Edition, profile: &[u8]) -> Verdict
+#[tactic(auto, unfolding(crate::specs::Check::judged))]
+pub fn check(edition: Edition, profile: &[u8]) -> Result<(), Refusal>
     ensures { answer_of result ≡ judged (fixed_bits edition) profile.now }
 {
     if profile.len() != 32 {
-        return Verdict::Refused(Refusal::Length);
+        return Err(Refusal::Length);
     }
-    let mut verdict = Verdict::Pass;
-    'registers: for position in 0..32 {
-        let register = (0x10 + position) as u8;
-        let fixed = fixed_bits(edition, position);
-        let byte = profile[position];
-        for bit in 0..8 {
-            if differs(fixed, byte, bit) {
-                verdict = Verdict::Refused(Refusal::FixedBit {
-                    register: register,
-                    bit: bit,
-                });
-                break 'registers;
-            }
-        }
-        verdict = value_verdict(profile, register);
-        let Verdict::Pass = verdict else {
-            break 'registers;
-        };
+    for register in 0x10..0x30 {
+        fixed_bits_verdict(edition, profile, register)?;
+        value_verdict(profile, register)?;
     }
-    verdict
+    Ok(())
 }

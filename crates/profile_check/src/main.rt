@@ -13,27 +13,19 @@ use edition::Edition;
 use std::io;
 use std::io::{Read, Write};
 
-#[derive(Drop)]
-enum Input {
-    // This many bytes at the start of the buffer.
-    Bytes(usize),
-    Failed(io::Error),
-}
-
-// Reads until the buffer is full or the input ends.
-fn read_input<R: Read>(input: &mut R, buffer: &mut [u8]) -> Input
+// Reads until the buffer is full or the input ends, and answers how many bytes stand at the buffer's start.
+fn read_input<R: Read>(input: &mut R, buffer: &mut [u8]) -> io::Result<usize>
     ensures within { count_of result ≤ length buffer.new }
     ensures bytes { IsRead (R.remaining input.old) (R.remaining input.new) buffer.new result }
 {
     let mut have = 0;
     while have < buffer.len() {
-        match input.read(&mut buffer[have..]) {
-            Ok(0) => break,
-            Ok(more) => have += more,
-            Err(error) => return Input::Failed(error),
+        match input.read(&mut buffer[have..])? {
+            0 => break,
+            more => have += more,
         }
     }
-    Input::Bytes(have)
+    Ok(have)
 }
 
 // Writes the verdict on a profile.
@@ -56,13 +48,9 @@ fn judge<R: Read, W: Write>(input: &mut R, output: &mut W) -> Result<(), Failure
     ensures { Judges (R.remaining input.old) (W.contents output.old) (W.contents output.new) result }
 {
     let mut buffer = [0u8; 33];
-    match read_input(input, &mut buffer) {
-        Input::Failed(error) => Err(Failure::Input(error)),
-        Input::Bytes(count) => match answer(output, &buffer[..count]) {
-            Ok(()) => Ok(()),
-            Err(error) => Err(Failure::Output(error)),
-        },
-    }
+    let count = read_input(input, &mut buffer).map_err(Failure::Input)?;
+    answer(output, &buffer[..count]).map_err(Failure::Output)?;
+    Ok(())
 }
 
 // Names what failed and why on standard error, without the number that the system has for it.

@@ -1,12 +1,16 @@
 -- The choice for a safe start (manual 11.5): of two images, the user's and the rescue image, the first one whose start-up profile passes the check of
 -- its own edition, and that part of it. Its refusals are 2 and 8.
 -- Assumes nothing.
-use Rattle.std.specs.Prelude.{ℕ, Bool, ◌&&◌, cond, List, [], eqb, length, take, drop}
+use Rattle.std.specs.Prelude.{ℕ, Bool, true, false, ◌&&◌, cond, List, [], eqb, length, take, drop}
 use Rattle.profile.specs.Answer.{is_pass}
 use Rattle.edition.specs.Edition.{fixed_bits, of_either, edition_of}
 use Rattle.profile.specs.Check.{judged}
+use Rattle.std.specs.declared.result.Result.{Result}
+use Rattle.std.specs.declared.result.Result.TheVariants.{Ok, Err}
 use Rattle.profile_choice.specs.declared.Choice.{Choice}
-use Rattle.profile_choice.specs.declared.Choice.TheVariants.{User, Rescue, ImageLength, BothFail}
+use Rattle.profile_choice.specs.declared.Choice.TheVariants.{User, Rescue}
+use Rattle.profile_choice.specs.declared.Refusal.{Refusal}
+use Rattle.profile_choice.specs.declared.Refusal.TheVariants.{ImageLength, BothFail}
 
 -- The start-up profile of an image: its bytes 010h-02Fh.
 abbrev pub start_up_profile : List ℕ → List ℕ
@@ -29,15 +33,26 @@ chosen user rescue =
     (cond (passing user) from_user (cond (passing rescue) from_rescue (refused 8)))
     (refused 2)
 
+-- A profile is chosen, or the choice is refused.
+abbrev pub has_profile : Chosen → Bool
+has_profile from_user = true
+has_profile from_rescue = true
+has_profile (refused n) = false
+
 -- The part of what was lent that is handed back; a refusal hands back nothing, the empty part.
 abbrev pub part_of : Chosen → List ℕ → List ℕ → List ℕ
 part_of from_user user rescue = start_up_profile user
 part_of from_rescue user rescue = start_up_profile rescue
 part_of (refused n) user rescue = []
 
--- What each case of the program's enum stands for.
-abbrev pub chosen_of : Choice → Chosen
-chosen_of User = from_user
-chosen_of Rescue = from_rescue
-chosen_of ImageLength = refused 2
-chosen_of BothFail = refused 8
+-- What each case of the program's enums stands for, and the profile that it has.
+abbrev pub chosen_of : Result Choice Refusal → Chosen
+chosen_of (Ok (User profile)) = from_user
+chosen_of (Ok (Rescue profile)) = from_rescue
+chosen_of (Err ImageLength) = refused 2
+chosen_of (Err BothFail) = refused 8
+
+abbrev pub profile_of : Result Choice Refusal → List ℕ
+profile_of (Ok (User profile)) = profile.now
+profile_of (Ok (Rescue profile)) = profile.now
+profile_of (Err refusal) = []

@@ -1,7 +1,8 @@
 -- The line for a verdict (manual 11.3), with its newline: `pass`; `refuse 9`; `refuse 10 at 22 bit 6`; and for 11 to 13 as `refuse 13 at 29`.
 -- Assumes nothing.
-use Rattle.std.specs.Prelude.{ℕ, ◌≡◌, List, ◌++◌, cond, ltb, length, drop}
+use Rattle.std.specs.Prelude.{ℕ, ◌≡◌, List, ◌++◌, cond, ltb, length, take, drop}
 use Rattle.bits.specs.Text.{ascii, decimal_byte, hex_byte}
+use Rattle.profile_line.specs.declared.Text.{Text}
 use Rattle.profile.specs.Answer.{Answer, pass, refuse, refuse_at, refuse_bit}
 
 abbrev pub refuse_text : ℕ → List ℕ
@@ -28,11 +29,6 @@ pub record LineMeets (a : Answer) (entry exit : List ℕ) (r : ℕ) : Type 0 whe
   pub count : r ≡ cond (ltb (length entry) 32) 0 (length (line_of a))
   pub bytes : exit ≡ cond (ltb (length entry) 32) entry (line_of a ++ drop (length (line_of a)) entry)
 
--- A buffer that was `before` now begins with `text`, which ends at `at`; its later bytes are as they were.
-pub record Written (before text after : List ℕ) (at : ℕ) : Type 0 where
-  pub bytes : after ≡ text ++ drop at before
-  pub end : at ≡ length text
-
--- What each step of writing keeps: a buffer that holds a text up to `at` holds it with `more` added up to `next`.
-abbrev pub Adds : List ℕ → List ℕ → ℕ → List ℕ → ℕ → Type 0
-Adds more entry at exit next = (before text : List ℕ) → Written before text entry at → Written before (text ++ more) exit next
+-- The text that the program puts together: the bytes of its buffer up to its length.
+abbrev pub text_of : Text → List ℕ
+text_of text = take text.length text.bytes

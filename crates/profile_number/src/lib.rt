@@ -6,9 +6,10 @@ ghost use Rattle.std.specs.Prelude.{◌≡◌};
 ghost use Rattle.profile.specs.Answer.{refusal_answer, answer_of};
 ghost use Rattle.profile_number.specs.Numbers.{profile_number};
 
-use profile::{Refusal, Verdict};
+use profile::Refusal;
 
 // The number of a refusal by the profile check.
+// Kept: no plainer as `impl From<Refusal> for u32`, which names no type of this crate and is refused here; a struct around the number would be opened again below.
 fn refusal_number(refusal: Refusal) -> u32
     ensures { result ≡ profile_number (refusal_answer refusal) }
 {
@@ -22,11 +23,11 @@ fn refusal_number(refusal: Refusal) -> u32
 }
 
 // The number of a verdict: 0 where the profile passes.
-pub fn verdict_number(verdict: Verdict) -> u32
+pub fn verdict_number(verdict: Result<(), Refusal>) -> u32
     ensures { result ≡ profile_number (answer_of verdict) }
 {
     match verdict {
-        Verdict::Pass => 0,
-        Verdict::Refused(refusal) => refusal_number(refusal),
+        Ok(()) => 0,
+        Err(refusal) => refusal_number(refusal),
     }
 }

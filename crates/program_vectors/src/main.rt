@@ -6,7 +6,6 @@
 #![tactic(auto)]
 
 use edition::Edition;
-use profile::Verdict;
 use std::io;
 
 const SHIPPED: [u8; 32] = [
@@ -31,8 +30,8 @@ fn show_checksum(
 fn show_shipped(rt: &impl Print) -> io::Result<()> {
     let profile = SHIPPED;
     let word = match profile::check(Edition::Mfrc531, &profile) {
-        Verdict::Pass => "pass",
-        Verdict::Refused(_) => "refused",
+        Ok(()) => "pass",
+        Err(_) => "refused",
     };
     println!(rt; "shipped profile of the MFRC531: {word}")
 }

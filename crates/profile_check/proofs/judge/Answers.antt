@@ -5,6 +5,10 @@ use Rattle.std.proofs.Math.Nat.{eq-or-lt_of_le}
 use borrow.Author.Tests.{ne_eqb}
 use Rattle.std.specs.Io.KnownBytes.{Appends, Consumes, IsAtEnd}
 use Rattle.std.specs.declared.option.Option.{Option}
+use Rattle.std.specs.declared.result.Result.{Result}
+use Rattle.std.specs.declared.result.Result.TheVariants.{Ok, Err}
+use Rattle.std.specs.Result.{MatchResult, IsErrAnd}
+use Rattle.std.proofs.lemmas.Result.{err_from_is_err_and}
 use Rattle.edition.specs.declared.FixedBits.{FixedBits}
 use Rattle.profile.specs.Answer.{refuse}
 use Rattle.profile.specs.Check.{judged}
@@ -37,5 +41,20 @@ whole (Some xs) (Some ys) old new buffer n room within consumed end written =
           subst (λ l. Appends old new (verdict_line l)) all written
     ]
 
-pub returns-in-Ok : goal.returns-in-Ok
-returns-in-Ok g c = whole _ _ _ _ c.read_input.new.buffer c.in-Bytes.count (search rules) c.in-Bytes.ensures.within c.in-Bytes.ensures.bytes.0 c.in-Bytes.ensures.bytes.1 c.in-Ok.ensures
+-- A `Result` whose error alone was mapped was `Ok` where it is `Ok` now.
+was_ok : {T E F : Type 0} {P : E → Type 0} (r : Result T E) (m : Result T F) (x : T) → MatchResult r (λ y. m ≡ Ok y) P → m ≡ Ok x → ((e : E) → P e → ⊥) → r ≡ Ok x
+was_ok (Ok y) m x same is other = cc
+was_ok (Err e) m x failed is other = absurd (other e failed)
+
+not_failed : {T F : Type 0} (Q : F → Type 0) (m : Result T F) (x : T) → IsErrAnd m Q → m ≡ Ok x → ⊥
+not_failed Q m x failed is = let p = err_from_is_err_and m failed in let clash : Err p.0 ≡ Ok x = sym p.1 ∙ is in cc
+
+pub returns : goal.returns
+returns g c =
+    let read : c.read_input.result ≡ Ok c.in_ok-count.count =
+    was_ok c.read_input.result c.map_err.result _ c.map_err.ensures.cases c.in_ok-count.was (λ e h. not_failed _ c.map_err.result _ h c.in_ok-count.was) in
+    let written : c.answer.result ≡ Ok c.in_ok-map_err.field-0 =
+    was_ok c.answer.result c.map_err-2.result _ c.map_err-2.ensures.cases c.in_ok-map_err.was (λ e h. not_failed _ c.map_err-2.result _ h c.in_ok-map_err.was) in
+    let within = rw read at c.read_input.ensures.within in
+    let bytes = rw read at c.read_input.ensures.bytes in
+    whole _ _ _ _ c.read_input.new.buffer c.in_ok-count.count (search rules) within bytes.0 bytes.1 (rw written at c.answer.ensures)

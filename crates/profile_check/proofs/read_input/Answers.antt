@@ -23,6 +23,6 @@ loop-have-preserved g c =
     let from = c.loop-have.have in
     let room = length c.loop-have.buffer - from in
     let within = c.loop-have.invariant.1 in
-    let part = slice_range-put_mid from room c.in-Ok.more c.loop-have.buffer c.read.new.buf within c.in-Ok.ensures.bound.0 in
-    let joined = take_split from (from + c.in-Ok.more) c.loop-have.buffer (put_mid from room c.loop-have.buffer c.read.new.buf) (omega arith) (take-put_mid_below _ _ _ _ _ (le_refl _) within) in
-    (search rules, search rules, subst (Consumes _ _) (ap (λ l. take from c.loop-have.buffer ++ l) (sym part) ∙ joined) (Consumes-trans _ _ _ _ _ c.loop-have.invariant.2 c.in-Ok.ensures.bytes.0))
+    let part = slice_range-put_mid from room c.in_ok-more.more c.loop-have.buffer c.read.new.buf within c.in_ok-more.ensures.bound.0 in
+    let joined = take_split from (from + c.in_ok-more.more) c.loop-have.buffer (put_mid from room c.loop-have.buffer c.read.new.buf) (omega arith) (take-put_mid_below _ _ _ _ _ (le_refl _) within) in
+    (search rules, search rules, subst (Consumes _ _) (ap (λ l. take from c.loop-have.buffer ++ l) (sym part) ∙ joined) (Consumes-trans _ _ _ _ _ c.loop-have.invariant.2 c.in_ok-more.ensures.bytes.0))

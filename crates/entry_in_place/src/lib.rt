@@ -114,26 +114,26 @@ pub fn mfrc531_pack_write(names: &[u8], bodies: &[u8], buffer: &mut [u8]) -> u32
     ensures { let outcome = writing names.now bodies.now (length buffer.old) in
         (result ≡ numbered length outcome) × (buffer.new ≡ filled outcome buffer.old) }
 {
-    pack_write::write(names, bodies, buffer)
+    pack_write::write_number(names, bodies, buffer)
 }
 
 // The number of profiles of a pack.
 pub fn mfrc531_pack_read(pack: &[u8]) -> u32
     ensures { result ≡ numbered length (reading pack.now) }
 {
-    pack_read::read(pack)
+    pack_read::read_number(pack)
 }
 
 // The offset of the body that has a name in a pack.
 pub fn mfrc531_pack_find(pack: &[u8], name: &[u8]) -> u32
     ensures { result ≡ numbered offset_of (finding pack.now name.now) }
 {
-    pack_find::find(pack, name)
+    pack_find::find_number(pack, name)
 }
 
 // The same in bytes that have been read as a pack, which are not judged again.
 pub fn mfrc531_pack_find_checked(pack: &[u8], name: &[u8]) -> u32
     ensures { result ≡ numbered offset_of (halved pack.now name.now) }
 {
-    pack_find::find_checked(pack, name)
+    pack_find::find_checked_number(pack, name)
 }

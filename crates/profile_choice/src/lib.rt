@@ -3,13 +3,13 @@
 
 #![tactic(auto)]
 
-ghost use Rattle.std.specs.Prelude.{◌≡◌, true, false, length, MatchOption};
+ghost use Rattle.std.specs.Prelude.{◌≡◌, true, false, length, MatchOption, Err};
 ghost use Rattle.edition.specs.Edition.{fixed_bits};
 ghost use Rattle.profile.specs.Answer.{is_pass};
 ghost use Rattle.profile.specs.Check.{judged};
-ghost use Rattle.profile_choice.specs.Choice.{start_up_profile, passing, chosen_of, profile_of, has_profile, part_of, chosen as choice_chosen};
+ghost use Rattle.profile_choice.specs.Choice.{start_up_profile, passing, refused, chosen_of, profile_of, has_profile, part_of, chosen as choice_chosen};
 
-use edition::{Edition, is_of};
+use edition::Edition;
 
 // Whose profile it is, and the profile.
 #[derive(Clone, Copy)]
@@ -27,6 +27,17 @@ pub enum Refusal {
     BothFail,
 }
 
+impl From<Refusal> for u32 {
+    ghost from_gives = { λ refusal number. chosen_of (Err refusal) ≡ refused number };
+
+    fn from(refusal: Refusal) -> u32 {
+        match refusal {
+            Refusal::ImageLength => 2,
+            Refusal::BothFail => 8,
+        }
+    }
+}
+
 // The image's bytes 010h-02Fh pass the check of an edition.
 fn passes_as(edition: Edition, image: &[u8]) -> bool
     requires { length image.now ≡ 512 }
@@ -40,13 +51,10 @@ fn passes(image: &[u8]) -> bool
     requires { length image.now ≡ 512 }
     ensures { result ≡ passing image.now }
 {
-    if is_of(Edition::Rc530, image) {
-        return passes_as(Edition::Rc530, image);
+    match Edition::of(image) {
+        Some(edition) => passes_as(edition, image),
+        None => false,
     }
-    if is_of(Edition::Mfrc531, image) {
-        return passes_as(Edition::Mfrc531, image);
-    }
-    false
 }
 
 // The start-up profile that is chosen, or the refusal.

@@ -11,6 +11,8 @@ use lib.Dec.{eqb}
 use lib.ListN.{length, get_or, drop, set, length-append, length-drop}
 use lib.Seq.{take-suc, get_or-drop}
 use Rattle.machine.specs.Memory.{bytes_from, over_registers}
+use Rattle.state.specs.View.{with_registers}
+use Rattle.state.specs.declared.Chip.{Chip}
 use Rattle.register_load.specs.Wrapped.{wrapped_from}
 
 -- No byte is laid over the registers.
@@ -51,10 +53,15 @@ unwrapped eeprom a (suc n) whole inside =
     ∙ ap (λ (b : ℕ). bytes_from eeprom a n ++ b ∷ []) (sym (get_or-drop a eeprom n 0))
     ∙ sym (take-suc (drop a eeprom) n 0 more)
 
--- A turn of the loop: the byte is stored, or at a Page position what is there.
-pub load_turn : (rs eeprom : List ℕ) (a i : ℕ) {now : List ℕ} → now ≡ over_registers 0 rs (wrapped_from eeprom a i) → (page : Bool) → eqb (i % 8) 0 ≡ page →
-    set now i (cond page (get_or now i 0) (get_or eeprom ((a + i) % 0x200) 0)) ≡ over_registers 0 rs (wrapped_from eeprom a (i + 1))
+-- One byte more over the registers of a chip: it is stored, or at a Page position what is there.
+pub load_turn : (old : Chip) (a i : ℕ) {now : Chip} → now ≡ with_registers (over_registers 0 old.registers (wrapped_from old.eeprom a i)) old → (page : Bool) → eqb (i % 8) 0 ≡ page →
+    with_registers (set now.registers i (cond page (get_or now.registers i 0) (get_or now.eeprom ((a + i) % 0x200) 0))) now
+    ≡ with_registers (over_registers 0 old.registers (wrapped_from old.eeprom a (i + 1))) old
 unfolding wrapped_from
-load_turn rs eeprom a i is page e =
-    let b = get_or eeprom ((a + i) % 0x200) 0 in
-    rw add-one (simp (is, ← e) (simp (wrapped_length, zero-add) at (sym (over_next 0 rs (wrapped_from eeprom a i) b))))
+load_turn old a i is page e =
+    let b = get_or old.eeprom ((a + i) % 0x200) 0 in
+    let bytes = wrapped_from old.eeprom a i in
+    let next : set (over_registers 0 old.registers bytes) i (cond page (get_or (over_registers 0 old.registers bytes) i 0) b) ≡ over_registers 0 old.registers (wrapped_from old.eeprom a (i + 1)) =
+    rw add-one (simp (← e) (simp (wrapped_length, zero-add) at (sym (over_next 0 old.registers bytes b)))) in
+    ap (λ (c : Chip). with_registers (set c.registers i (cond page (get_or c.registers i 0) (get_or c.eeprom ((a + i) % 0x200) 0))) c) is
+    ∙ ap (λ (l : List ℕ). with_registers l old) next

@@ -4,20 +4,21 @@
 
 ghost use Rattle.std.specs.Prelude.{◌≡◌};
 ghost use Rattle.machine.specs.Memory.{over_registers};
+ghost use Rattle.state.specs.View.{with_registers};
 ghost use Rattle.register_load.specs.Wrapped.{wrapped_from};
 
+use state::Chip;
+
 // Loads registers 10h-2Fh from an address on, Page positions skipped. An address is kept inside the EEPROM by a remainder, so that every one is safe.
-pub fn load_registers(registers: &mut [u8; 32], eeprom: &[u8; 512], address: u16)
-    ensures { let bytes = wrapped_from eeprom.now address 32 in
-        registers.new ≡ over_registers 0 registers.old bytes }
+pub fn load_registers(chip: &mut Chip, address: u16)
+    ensures { let bytes = wrapped_from chip.old.eeprom address 32 in
+        chip.new ≡ with_registers (over_registers 0 chip.old.registers bytes) chip.old }
 {
     let start = address as usize;
-    let mut i: usize = 0;
-    while i < 32 {
+    for i in 0..32 {
         if i % 8 != 0 {
             let from = (start + i) % 512;
-            registers[i] = eeprom[from];
+            chip.registers[i] = chip.eeprom[from];
         }
-        i += 1;
     }
 }

@@ -7,46 +7,39 @@ ghost use Rattle.std.specs.Prelude.{◌%◌, ◌^◌, ◌≤◌, not, ◌&&◌, 
 ghost use Rattle.bits.specs.Bits.{bit_set};
 ghost use Rattle.machine.specs.State.{Timer, with_timer};
 ghost use Rattle.machine.specs.Timer.{timer_stopped as timer_timer_stopped, timer_started as timer_timer_started};
-ghost use Rattle.state.specs.Lent.{clocks_state, clocks_state_registers};
 ghost use Rattle.state.specs.Turns.{Turns};
 
-use state::{PHASE, PRESCALER, RUNNING, VALUE};
+use state::{Chip, PHASE, PRESCALER, RUNNING, VALUE};
 
 // The timer is running or stopped, at a value and a prescaler; its phase is 0.
-fn timer_set(clocks: &mut [u32; 2], state: &mut [u8; 24], running: bool, value: u8, prescaler: u8)
-    ensures { let before = clocks_state clocks.old state.old in
-        let after = clocks_state clocks.new state.new in
-        let timer : Timer = record { running = running; value = value; prescaler = prescaler; phase = 0 } in
-        Turns (with_timer timer) before after }
+fn timer_set(chip: &mut Chip, running: bool, value: u8, prescaler: u8)
+    ensures { let timer : Timer = record { running = running; value = value; prescaler = prescaler; phase = 0 } in
+        Turns (with_timer timer) chip.old chip.new }
 {
-    clocks[PHASE] = 0;
-    state[RUNNING] = running as u8;
-    state[PRESCALER] = prescaler;
-    state[VALUE] = value;
+    chip.clocks[PHASE] = 0;
+    chip.state[RUNNING] = running as u8;
+    chip.state[PRESCALER] = prescaler;
+    chip.state[VALUE] = value;
 }
 
 // The timer stops, and its value stays.
-pub fn timer_stopped(clocks: &mut [u32; 2], state: &mut [u8; 24])
-    ensures { let before = clocks_state clocks.old state.old in
-        let after = clocks_state clocks.new state.new in
-        Turns timer_timer_stopped before after }
+pub fn timer_stopped(chip: &mut Chip)
+    ensures { Turns timer_timer_stopped chip.old chip.new }
 {
-    let value = state[VALUE];
-    timer_set(clocks, state, false, value, 0);
+    let value = chip.state[VALUE];
+    timer_set(chip, false, value, 0);
 }
 
 // TimerReload and TPreScaler are loaded; a reload of 0 and a prescaler above 21 stop the timer at 0.
-pub fn timer_started(clocks: &mut [u32; 2], state: &mut [u8; 24], registers: &[u8; 32])
-    ensures { let before = clocks_state_registers clocks.old state.old registers.now in
-        let after = clocks_state_registers clocks.new state.new registers.now in
-        Turns timer_timer_started before after }
+pub fn timer_started(chip: &mut Chip)
+    ensures { Turns timer_timer_started chip.old chip.new }
 {
-    let reload = registers[0x2C - 0x10];
-    let prescaler = registers[0x2A - 0x10] % 32;
+    let reload = chip.registers[0x2C - 0x10];
+    let prescaler = chip.registers[0x2A - 0x10] % 32;
     if reload == 0 || 21 < prescaler {
-        timer_set(clocks, state, false, 0, 0);
+        timer_set(chip, false, 0, 0);
     } else {
-        timer_set(clocks, state, true, reload, prescaler);
+        timer_set(chip, true, reload, prescaler);
     }
 }
 

@@ -1,10 +1,10 @@
 -- `state_timer::timer_started` meets its contract, by whether the reload is 0 or the prescaler above 21. Assumes nothing.
-use Rattle.std.proofs.Common.{ℕ, ◌%◌, ◌≡◌, sym, ap, ◌∙◌, List, Bool, true, false, cond, ◌||◌, eqb, ltb, ⊎_elim}
+use Rattle.std.proofs.Common.{◌%◌, ◌≡◌, sym, ap, ◌∙◌, Bool, true, false, cond, ◌||◌, eqb, ltb, ⊎_elim}
 use mathlib.Core.Bool.{or-true}
 use borrow.Author.Tests.{eq-eqb, ne_eqb, lt-ltb, le-ltb}
 use Rattle.machine.specs.State.{with_timer}
 use Rattle.machine.specs.Timer.{stopped_at, running_at, timer_started, timer_reload, t_pre_scaler}
-use Rattle.state.specs.View.{at, view, view_of, with_registers}
+use Rattle.state.specs.View.{at, view, view_of}
 use Rattle.state.specs.Turns.{Turned}
 use Rattle.state.specs.declared.Chip.{Chip}
 use Rattle.state.proofs.TurnLaws.{becomes}
@@ -18,19 +18,19 @@ by_test {old} t is turn =
 
 pub returns-then-prescaler-gt21 : goal.returns-then-prescaler-gt21
 unfolding view_of
-returns-then-prescaler-gt21 c chip sizes =
-    let registers = c.args.registers.now in
+returns-then-prescaler-gt21 c sizes =
+    let registers = c.args.chip.now.registers in
     let stops : (eqb (at registers 0x1C) 0 || ltb 21 (at registers 0x1A % 32)) ≡ true =
     ⊎_elim
     (λ zero. ap (λ (b : Bool). b || ltb 21 (at registers 0x1A % 32)) (eq-eqb _ _ zero))
     (λ w. ap (λ (b : Bool). eqb (at registers 0x1C) 0 || b) (lt-ltb _ _ w.1) ∙ or-true _)
     c.if-prescaler-gt21.either in
-    by_test true stops (c.timer_set.ensures (with_registers registers chip) sizes)
+    by_test true stops (c.timer_set.ensures sizes)
 
 pub returns-else-prescaler-gt21 : goal.returns-else-prescaler-gt21
 unfolding view_of
-returns-else-prescaler-gt21 c chip sizes =
-    let registers = c.args.registers.now in
+returns-else-prescaler-gt21 c sizes =
+    let registers = c.args.chip.now.registers in
     let runs : (eqb (at registers 0x1C) 0 || ltb 21 (at registers 0x1A % 32)) ≡ false =
     ap (λ (b : Bool). b || ltb 21 (at registers 0x1A % 32)) (ne_eqb _ _ c.if-prescaler-gt21.false.0) ∙ le-ltb _ _ c.if-prescaler-gt21.false.1 in
-    by_test false runs (c.timer_set-else-prescaler-gt21.ensures (with_registers registers chip) sizes)
+    by_test false runs (c.timer_set-else-prescaler-gt21.ensures sizes)

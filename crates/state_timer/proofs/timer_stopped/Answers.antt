@@ -7,4 +7,4 @@ use Rattle.state_timer.proofs.timer_stopped.Goals as goal
 
 pub returns : goal.returns
 unfolding view_of
-returns c chip sizes = becomes timer_stopped (c.timer_set.ensures chip sizes) refl
+returns c sizes = becomes timer_stopped (c.timer_set.ensures sizes) refl

@@ -2,7 +2,7 @@
 
 #![tactic(auto)]
 
-ghost use Rattle.std.specs.Prelude.{◌+◌, ◌≤◌, ◌≡◌, ◌++◌, length, take as list_n_take};
+ghost use Rattle.std.specs.Prelude.{◌+◌, ◌≤◌, ◌≡◌, ◌++◌, length, take};
 ghost use Rattle.machine.specs.Refusals.{take_frame};
 ghost use Rattle.machine.specs.Frames.{frame_sent};
 ghost use Rattle.state.specs.View.{view, held_from};
@@ -30,7 +30,7 @@ fn put_held(slots: &[u8; 64], position: u8, count: usize, buffer: &mut [u8])
 // The checksum of a buffer's first bytes goes behind them: one byte for CRC8, else two, the low one first. Answers where it ends.
 fn put_crc(redundancy: u8, lsb: u8, msb: u8, end: usize, buffer: &mut [u8]) -> usize
     requires { end + 2 ≤ length buffer.old }
-    ensures puts { let bytes = list_n_take end buffer.old in
+    ensures puts { let bytes = take end buffer.old in
         Put (bytes ++ checksum_bytes redundancy lsb msb bytes) buffer.old result buffer.new }
     ensures few { result ≤ end + 2 }
 {

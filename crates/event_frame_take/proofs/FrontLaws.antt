@@ -1,6 +1,6 @@
 -- Laws of a buffer: its elements are bytes, and bytes are put at its front, with more behind them.
 -- Assumes nothing.
-use Prim.Native.Nat.{ℕ, ◌+◌, ◌-◌, ◌%◌, ◌<◌, ◌≤◌}
+use Prim.Native.Nat.{ℕ, ◌+◌, ◌%◌, ◌<◌, ◌≤◌, min}
 use native.Mathlib.Numerals.{add-one}
 use native.Mathlib.Omega.{arith}
 use mathlib.Core.Path.{◌≡◌, sym, ap, ◌∙◌}
@@ -56,7 +56,7 @@ held_turn slots buffer now p i room is =
     ∙ ap (λ (l : List ℕ). at_front l buffer) (sym (ap (held_from slots p) (add-one i) ∙ held_last slots p i))
 
 -- The first 64 of the bytes that a ring holds are all, where it holds no more.
-pub all_put : {read write n : ℕ} → Counts read write n → (slots buffer now : List ℕ) (count : ℕ) → count ≡ n - (n - 64) →
+pub all_put : {read write n : ℕ} → Counts read write n → (slots buffer now : List ℕ) (count : ℕ) → count ≡ min n 64 →
     now ≡ at_front (held_from slots read count) buffer → length (held_of read write slots) ≤ 64 → Put (held_of read write slots) buffer count now
 all_put {read} {write} {n} p slots buffer now count least is few =
     let all : count ≡ n = omega (arith, count_length p slots) in

@@ -1,15 +1,15 @@
 -- Laws of the FIFO in the state: a byte taken, a byte stored, and the alerts over that.
 -- Assumes nothing.
-use Rattle.std.proofs.Common.{◌≡◌, ℕ, ◌+◌, ◌-◌, ◌%◌, ◌<◌, ◌≤◌, ltb, List, [], ◌∷◌, ◌++◌, length, get_or, drop, set, sym, refl, ap, ◌∙◌, arith, length-append, length-set, le-ltb, lt-ltb}
+use Rattle.std.proofs.Common.{◌≡◌, ℕ, ◌+◌, ◌-◌, ◌%◌, ◌<◌, ◌≤◌, ltb, List, [], ◌∷◌, ◌++◌, length, get_or, drop, set, min, lit<, sym, refl, ap, ◌∙◌, arith, length-append, length-set, le-ltb, lt-ltb}
 use lib.Bits.{bit_and}
-use Rattle.machine.specs.State.{Machine, with_held}
+use Rattle.machine.specs.State.{Machine, with_held, with_lost_sum}
 use Rattle.machine.specs.Fifo.{first_of, rest_of, one_lost, offered, lost_at, alerted}
 use Rattle.machine.proofs.Cases.{either}
-use Rattle.state.specs.View.{at, view, view_of, held_count, held_of, with_state, with_slots, raised}
-use Rattle.state.specs.Turns.{Counts, Holds, Turns}
+use Rattle.state.specs.View.{at, view, view_of, held_count, held_of, with_numbers, with_state, with_slots, raised}
+use Rattle.state.specs.Turns.{Sizes, Turned, Counts, Holds, Turns}
 use Rattle.state.specs.declared.Chip.{Chip}
 use Rattle.state.proofs.RingLaws.{held_at, count_length, ring_stored}
-use Rattle.state.proofs.StoreLaws.{at_set, stored, keeps_byte}
+use Rattle.state.proofs.StoreLaws.{at_set, stored, keeps_byte, set_number}
 use Rattle.state.proofs.TurnLaws.{sized_slots, sized_state}
 use Rattle.state_fifo.specs.Alerts.{alert_bits, alerts_of}
 use Rattle.state_fifo.proofs.AlertLaws.{alerted_from_lem, alerted_same}
@@ -60,17 +60,25 @@ pub first_slot : {read write n : ℕ} → Counts read write n → 0 < n → (slo
 first_slot {read} {write} p some slots =
     sym (held_at slots read (held_count read write) 0 (omega (arith, p.counted)) ∙ ap (λ (k : ℕ). get_or slots (k % 64) 0) (omega arith)) ∙ first_at (held_of read write slots)
 
--- A byte is stored in the slot of the write position, and this moves on.
-pub stored_byte : (old : Chip) {n : ℕ} → Holds old.state n → n < 64 → (b x : ℕ) → x ≡ (at old.state 14 + 1) % 256 →
-    Turns (offered b) old (with_state (set old.state 14 x) (with_slots (set old.slots (at old.state 14 % 64) b) old))
+-- A byte that is lost is counted.
+pub counted : (old : Chip) → Sizes old → (next : ℕ) → next ≡ min 65_535 (at old.numbers 2 + 1) →
+    Turned (λ m. with_lost_sum (min 65_535 (m.lost_sum + 1)) m) old (with_numbers (set old.numbers 2 next) old)
 unfolding view_of
-stored_byte old p room b x moved sizes =
+counted old sizes next is =
+    set_number (λ m. with_lost_sum (min 65_535 (m.lost_sum + 1)) m) 2 next old (lit< tt) refl sizes (ap (λ (n : ℕ). with_lost_sum n (view old)) is)
+
+-- A byte is stored in the slot of the write position, and this moves on.
+pub stored_byte : (old : Chip) {n : ℕ} → Holds old.state n → n < 64 → (b : ℕ) →
+    Turns (offered b) old (with_state (set old.state 14 ((at old.state 14 + 1) % 256)) (with_slots (set old.slots (at old.state 14 % 64) b) old))
+unfolding view_of
+stored_byte old p room b sizes =
     let l = old.state in
     let slots = old.slots in
+    let x = (at l 14 + 1) % 256 in
     let filled = set slots (at l 14 % 64) b in
     stored (with_state (set l 14 x) (with_slots filled old)) refl refl (at_set l 14 x (omega (arith, sizes.state_count))) (offered b) old
     (sized_state (sized_slots sizes filled (length-set slots (at l 14 % 64) b ∙ sizes.slot_count)) (set l 14 x) (length-set l 14 x ∙ sizes.state_count))
-    (ap (λ (h : List ℕ). with_held h (view old)) (ring_stored p slots b x room sizes.slot_count moved) ∙ sym (offer_stored b (view old) (omega (arith, count_length p slots))))
+    (ap (λ (h : List ℕ). with_held h (view old)) (ring_stored p slots b x room sizes.slot_count refl) ∙ sym (offer_stored b (view old) (omega (arith, count_length p slots))))
     (keeps_byte old 14 x refl (λ bytes. refl))
 
 pub stored_registers : (b : ℕ) (m : Machine) → (offered b m).registers ≡ m.registers

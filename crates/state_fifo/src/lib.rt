@@ -19,7 +19,7 @@ pub fn argument(chip: &Chip, k: u8) -> u8
     ensures { Reads (argument k) chip.now result }
 {
     if k < chip.held() {
-        let slot = (std::num::wrapping_add_u8(chip.state[READ], k) % 64) as usize;
+        let slot = (chip.state[READ].wrapping_add(k) % 64) as usize;
         return chip.slots[slot];
     }
     0
@@ -42,23 +42,16 @@ pub fn taken(chip: &mut Chip, count: u8)
         emptied(chip);
         return;
     }
-    chip.state[READ] = std::num::wrapping_add_u8(chip.state[READ], count);
+    chip.state[READ] = chip.state[READ].wrapping_add(count);
 }
 
-// One more, up to 65,535. That the sum has 16 bits is known of a parameter by value, and not of an element that is loaded.
-fn one_more(sum: u16) -> u16
-    ensures { result ≡ min 65_535 (sum + 1) }
-{
-    if sum < 65_535 { sum + 1 } else { sum }
-}
-
-// A byte is lost: FIFOOvfl is set, and the sum of lost bytes is one more.
+// A byte is lost: FIFOOvfl is set, and the sum of lost bytes is one more, up to 65,535.
 fn one_lost(chip: &mut Chip)
     ensures turns { Turns one_lost chip.old chip.new }
     ensures rest { chip.new ≡ with_numbers chip.new.numbers (with_state chip.new.state chip.old) }
 {
     chip.failed(0x10);
-    chip.numbers[LOST_SUM] = one_more(chip.numbers[LOST_SUM]);
+    chip.numbers[LOST_SUM] = chip.numbers[LOST_SUM].saturating_add(1);
 }
 
 // A byte is offered: it is stored behind those held, or lost where 64 or more are held. Answers how many bytes were lost.
@@ -74,7 +67,7 @@ pub fn offered(chip: &mut Chip, byte: u8) -> u8
     let write = chip.state[WRITE];
     let slot = (write % 64) as usize;
     chip.slots[slot] = byte;
-    chip.state[WRITE] = std::num::wrapping_add_u8(write, 1);
+    chip.state[WRITE] = write.wrapping_add(1);
     0
 }
 
@@ -103,7 +96,7 @@ pub fn flag(set: bool) -> u8
     ensures is { result ≡ flag set }
     ensures small { result ≤ 1 }
 {
-    if set { 1 } else { 0 }
+    set as u8
 }
 
 // HiAlert and LoAlert in bits 1 and 0, by how many bytes are held. HiAlert's test, 64 - held ≤ WaterLevel, is turned around, so that no difference is
@@ -145,7 +138,7 @@ pub fn fifo_read(chip: &mut Chip) -> u8
     let read = chip.state[READ];
     let first = chip.slots[(read % 64) as usize];
     let level = fifo_level(chip);
-    chip.state[READ] = std::num::wrapping_add_u8(read, 1);
+    chip.state[READ] = read.wrapping_add(1);
     chip.requested(alerts(count - 1, level) & !alerts(count, level));
     first
 }
@@ -163,7 +156,7 @@ pub fn fifo_written(chip: &mut Chip, byte: u8) -> u8
     let write = chip.state[WRITE];
     let slot = (write % 64) as usize;
     chip.slots[slot] = byte;
-    chip.state[WRITE] = std::num::wrapping_add_u8(write, 1);
+    chip.state[WRITE] = write.wrapping_add(1);
     let level = fifo_level(chip);
     chip.requested(alerts(count + 1, level) & !alerts(count, level));
     0

@@ -1,43 +1,24 @@
 -- `event_frame_take::frame_into` meets its contract, by whether a checksum is added. Assumes nothing.
-use Prim.Native.Nat.{◌≤◌}
-use native.Mathlib.Omega.{arith}
-use lib.ListN.{length}
+use Rattle.std.proofs.Common.{arith}
 use Rattle.state.specs.View.{view, view_of}
-use Rattle.state.specs.Lent.{state_registers_slots}
-use Rattle.state.specs.declared.Chip.{Chip}
-use Rattle.event_frame_take.specs.Front.{Put}
 use Rattle.event_frame_take.proofs.FrontLaws.{all_put}
 use Rattle.event_frame_take.proofs.FrameLaws.{sent_unmarked, sent_part, sent_marked}
 use Rattle.event_frame_take.proofs.frame_into.Goals as goal
-use Rattle.event_frame_take.proofs.frame_into.Goals.{After-put_held}
 
-held_first : (put : After-put_held) (chip : Chip) → let m = view ((state_registers_slots put.args.state.now put.args.registers.now put.args.slots.now) chip) in length m.held ≤ 64 →
-    Put m.held put.args.buffer.now put.least-count.result put.put_held.new.buffer
+pub returns-then-redundancy-ne1-clause-puts : goal.returns-then-redundancy-ne1-clause-puts
 unfolding view_of
-held_first put chip few =
-    let a = put.args in
-    all_put put.held.ensures a.slots.now a.buffer.now put.put_held.new.buffer put.least-count.result put.least-count.ensures put.put_held.ensures few
+returns-then-redundancy-ne1-clause-puts c few =
+    let old = c.args.chip.now in
+    sent_unmarked (view old) _ _ _ (all_put c.held.ensures old.slots c.args.buffer.now _ _ c.min-count.ensures c.put_held.ensures few) (omega arith)
 
-pub returns-then-redundancy-ne1 : goal.returns-then-redundancy-ne1
+pub returns-then-chip-ne0-clause-puts : goal.returns-then-chip-ne0-clause-puts
 unfolding view_of
-returns-then-redundancy-ne1 c =
-    record {
-      puts = λ chip few. sent_unmarked (view ((state_registers_slots c.args.state.now c.args.registers.now c.args.slots.now) chip)) _ _ _ (held_first (goal.at.returns-then-redundancy-ne1 c).After-put_held chip few) (omega arith);
-      few = omega arith;
-    }
+returns-then-chip-ne0-clause-puts c few =
+    let old = c.args.chip.now in
+    sent_part (view old) _ _ _ (all_put c.held.ensures old.slots c.args.buffer.now _ _ c.min-count.ensures c.put_held.ensures few) (omega arith)
 
-pub returns-then-state-ne0 : goal.returns-then-state-ne0
+pub returns-clause-puts : goal.returns-clause-puts
 unfolding view_of
-returns-then-state-ne0 c =
-    record {
-      puts = λ chip few. sent_part (view ((state_registers_slots c.args.state.now c.args.registers.now c.args.slots.now) chip)) _ _ _ (held_first (goal.at.returns-then-state-ne0 c).After-put_held chip few) (omega arith);
-      few = omega arith;
-    }
-
-pub returns : goal.returns
-unfolding view_of
-returns c =
-    record {
-      puts = λ chip few. sent_marked (view ((state_registers_slots c.args.state.now c.args.registers.now c.args.slots.now) chip)) _ _ _ (held_first (goal.at.returns c).After-put_held chip few) _ _ (omega arith) (omega arith) c.put_crc.ensures.puts;
-      few = omega arith;
-    }
+returns-clause-puts c few =
+    let old = c.args.chip.now in
+    sent_marked (view old) _ _ _ (all_put c.held.ensures old.slots c.args.buffer.now _ _ c.min-count.ensures c.put_held.ensures few) _ _ (omega arith) (omega arith) c.put_crc.ensures.puts

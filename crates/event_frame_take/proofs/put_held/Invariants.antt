@@ -1,12 +1,7 @@
-use Prim.Native.Nat.{◌-◌, ◌≤◌}
-use mathlib.Core.Path.{◌≡◌}
-use lib.ListN.{length}
+use Rattle.std.proofs.Common.{◌≡◌, length}
 use Rattle.state.specs.View.{held_from}
 use Rattle.event_frame_take.specs.Front.{at_front}
 use Rattle.event_frame_take.proofs.put_held.Given as goal
 
 abbrev pub invariant-loop-i : goal.invariant-loop-i
-invariant-loop-i l = (l.i ≤ l.count) × (length l.buffer ≡ length l.initial.buffer) × (l.buffer ≡ at_front (held_from l.slots l.position l.i) l.initial.buffer)
-
-abbrev pub decreases-loop-i : goal.decreases-loop-i
-decreases-loop-i l = l.count - l.i
+invariant-loop-i l = (length l.buffer ≡ length l.initial.buffer) × (l.buffer ≡ at_front (held_from l.slots l.position l.i) l.initial.buffer)

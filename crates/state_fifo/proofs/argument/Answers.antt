@@ -12,7 +12,7 @@ returns-then-k-held c =
     let old = a.chip.now in
     let p = c.held.ensures in
     let read = at old.state 13 in
-    let slot : c.wrapping_add_u8.result % 64 ≡ (read + a.k) % 64 = omega (arith, c.wrapping_add_u8.ensures.value) in
+    let slot : (read + a.k) % 256 % 64 ≡ (read + a.k) % 64 = omega arith in
     ap (λ (i : ℕ). get_or old.slots i 0) slot ∙ sym (held_at old.slots read (held_count read (at old.state 14)) a.k (omega (arith, p.counted)))
 
 pub returns : goal.returns

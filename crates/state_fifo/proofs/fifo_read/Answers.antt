@@ -1,5 +1,5 @@
 -- `state_fifo::fifo_read` meets its contract: the first byte leaves, and the alerts are those over that. Assumes nothing.
-use Rattle.std.proofs.Common.{ℕ, ◌-◌, ◌<◌, List, sym, refl, ap, ◌∙◌, arith, lit<}
+use Rattle.std.proofs.Common.{ℕ, ◌+◌, ◌%◌, ◌-◌, ◌<◌, List, sym, refl, ap, ◌∙◌, arith, lit<}
 use Rattle.machine.specs.State.{Machine, with_held}
 use Rattle.machine.specs.Fifo.{rest_of, alerted}
 use Rattle.state.specs.View.{at, held_of, view, view_of}
@@ -20,7 +20,6 @@ returns-then-count-eq0 c =
       turns = λ sizes.
           becomes (λ m. alerted m (with_held (rest_of m.held) m)) (stays old sizes)
           (sym (alerted_same (view old)) ∙ ap (λ (l : List ℕ). alerted (view old) (with_held l (view old))) (sym (none_rest held empty)));
-      rest = refl;
     }
 
 pub returns : goal.returns
@@ -32,15 +31,14 @@ returns c =
     let p = c.held-count.ensures in
     let n = c.held-count.result in
     let some : 0 < n = omega (arith, c.if-count-eq0.false) in
-    let x = c.wrapping_add_u8.result in
+    let x = (at l 13 + 1) % 256 in
     let held = held_of (at l 13) (at l 14) old.slots in
     let rest : Machine → Machine = λ m. with_held (rest_of m.held) m in record {
       reads = first_slot p some old.slots;
       turns = λ sizes.
           let leaves = set_byte rest l 13 x old (lit< tt) refl sizes
-          (ap (λ (h : List ℕ). with_held h (view old)) (ring_taken p old.slots 1 x (omega arith) c.wrapping_add_u8.ensures.value ∙ drop_one held)) (λ bytes. refl) in
+          (ap (λ (h : List ℕ). with_held h (view old)) (ring_taken p old.slots 1 x (omega arith) refl ∙ drop_one held)) (λ bytes. refl) in
           becomes (λ m. alerted m (rest m)) (then leaves (c.requested.ensures.turns leaves.sizes))
           (alerts_over (view old) (rest (view old)) n (n - 1) level.result c.alerts.result c.alerts-2.result level.ensures refl (count_length p old.slots)
           (ap (λ (k : ℕ). k - 1) (count_length p old.slots) ∙ sym (length_rest held)) c.alerts.ensures.is c.alerts-2.ensures.is);
-      rest = c.requested.ensures.rest;
     }

@@ -26,7 +26,7 @@ returns-clause-turns c sizes =
     let p = c.held-count.ensures in
     let count = count_length p old.slots in
     let room : c.held-count.result < 64 = omega arith in
-    let stores = stored_byte old p room a.byte c.wrapping_add_u8.result c.wrapping_add_u8.ensures.value sizes in (
+    let stores = stored_byte old p room a.byte sizes in (
       becomes (λ m. alerted m (offered a.byte m)) (then stores (c.requested.ensures.turns stores.sizes))
           (alerts_over (view old) (offered a.byte (view old)) c.held-count.result (c.held-count.result + 1) level.result c.alerts.result c.alerts-2.result
           level.ensures (stored_registers a.byte (view old)) count

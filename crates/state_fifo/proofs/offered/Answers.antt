@@ -19,6 +19,6 @@ pub returns-clause-turns : goal.returns-clause-turns
 unfolding view_of
 returns-clause-turns c sizes =
     let old = c.args.chip.now in (
-      stored_byte old c.held.ensures (omega arith) c.args.byte c.wrapping_add_u8.result c.wrapping_add_u8.ensures.value sizes,
+      stored_byte old c.held.ensures (omega arith) c.args.byte sizes,
       none_lost (view old) (omega (arith, count_length c.held.ensures old.slots)),
     )

@@ -1,5 +1,5 @@
 -- `state_fifo::taken` meets its contract, by whether all leave. Assumes nothing.
-use Rattle.std.proofs.Common.{ℕ, List, sym, refl, ap, arith, lit<, drop_of_length-le}
+use Rattle.std.proofs.Common.{ℕ, ◌+◌, ◌%◌, List, sym, refl, ap, arith, lit<, drop_of_length-le}
 use Rattle.machine.specs.State.{with_held}
 use Rattle.machine.specs.Commands.{taken}
 use Rattle.state.specs.View.{at, held_of, view, view_of}
@@ -22,5 +22,5 @@ unfolding view_of
 returns-clause-turns c sizes =
     let a = c.args in
     let old = a.chip.now in
-    set_byte (taken a.count) old.state 13 c.wrapping_add_u8.result old (lit< tt) refl sizes
-    (ap (λ (h : List ℕ). with_held h (view old)) (ring_taken c.held.ensures old.slots a.count c.wrapping_add_u8.result (omega arith) c.wrapping_add_u8.ensures.value)) (λ bytes. refl)
+    set_byte (taken a.count) old.state 13 ((at old.state 13 + a.count) % 256) old (lit< tt) refl sizes
+    (ap (λ (h : List ℕ). with_held h (view old)) (ring_taken c.held.ensures old.slots a.count ((at old.state 13 + a.count) % 256) (omega arith) refl)) (λ bytes. refl)

@@ -6,7 +6,7 @@
 ghost use Rattle.std.specs.Prelude.{◌%◌, ◌^◌, ◌≤◌, not, ◌&&◌, ◌≡◌, eqb};
 ghost use Rattle.bits.specs.Bits.{bit_set};
 ghost use Rattle.machine.specs.State.{Timer, with_timer};
-ghost use Rattle.machine.specs.Timer.{timer_stopped as timer_timer_stopped, timer_started as timer_timer_started};
+ghost use Rattle.machine.specs.Timer.{timer_stopped, timer_started};
 ghost use Rattle.state.specs.Turns.{Turns};
 
 use state::{Chip, PHASE, PRESCALER, RUNNING, VALUE};
@@ -24,7 +24,7 @@ fn timer_set(chip: &mut Chip, running: bool, value: u8, prescaler: u8)
 
 // The timer stops, and its value stays.
 pub fn timer_stopped(chip: &mut Chip)
-    ensures { Turns timer_timer_stopped chip.old chip.new }
+    ensures { Turns timer_stopped chip.old chip.new }
 {
     let value = chip.state[VALUE];
     timer_set(chip, false, value, 0);
@@ -32,7 +32,7 @@ pub fn timer_stopped(chip: &mut Chip)
 
 // TimerReload and TPreScaler are loaded; a reload of 0 and a prescaler above 21 stop the timer at 0.
 pub fn timer_started(chip: &mut Chip)
-    ensures { Turns timer_timer_started chip.old chip.new }
+    ensures { Turns timer_started chip.old chip.new }
 {
     let reload = chip.registers[0x2C - 0x10];
     let prescaler = chip.registers[0x2A - 0x10] % 32;

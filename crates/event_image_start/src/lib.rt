@@ -3,7 +3,7 @@
 #![tactic(auto)]
 
 ghost use Rattle.std.specs.Prelude.{[]};
-ghost use Rattle.machine.specs.Refusals.{start as refusals_start};
+ghost use Rattle.machine.specs.Refusals.{start};
 ghost use Rattle.state.specs.Answers.{PromisesAnswer, done_answer};
 
 use edition::{Edition, is_of};
@@ -15,7 +15,7 @@ const IMAGE_LENGTH: usize = 512;
 
 // A start from an EEPROM image. Elements that no field uses, slots and latch are cleared too, so that the same image gives the same chip.
 pub fn start(chip: &mut Chip, image: &[u8]) -> Result<(), Refusal>
-    ensures { PromisesAnswer done_answer chip.old (refusals_start image.now) chip.new result [] }
+    ensures { PromisesAnswer done_answer chip.old (start image.now) chip.new result [] }
 {
     if image.len() != IMAGE_LENGTH {
         return Err(Refusal::ImageLength);

@@ -4,8 +4,8 @@
 #![tactic(auto)]
 
 ghost use Rattle.std.specs.Prelude.{◌/◌, ◌<◌, ◌≡◌};
-ghost use Rattle.machine.specs.Fifo.{flushed as fifo_flushed, alerted as fifo_alerted};
-ghost use Rattle.machine.specs.Registers.{interrupts_written, register_written as registers_register_written};
+ghost use Rattle.machine.specs.Fifo.{flushed, alerted};
+ghost use Rattle.machine.specs.Registers.{interrupts_written, register_written};
 ghost use Rattle.state.specs.View.{interrupts_of};
 ghost use Rattle.state.specs.Turns.{Turns};
 ghost use Rattle.register_write.specs.Written.{other_written, bit_after, NumberWritten, both_written};
@@ -32,7 +32,7 @@ fn marked_bits(old: u8, v: u8) -> u8
 
 // FIFOLevel is written, and the alerts are judged by the new WaterLevel.
 fn level_written(chip: &mut Chip, v: u8)
-    ensures { Turns (λ m. fifo_alerted m (registers_register_written 0x29 v m)) chip.old chip.new }
+    ensures { Turns (λ m. alerted m (register_written 0x29 v m)) chip.old chip.new }
 {
     let before = alerts_of(chip);
     chip.registers[0x29 - 0x10] = v;
@@ -41,7 +41,7 @@ fn level_written(chip: &mut Chip, v: u8)
 
 // FlushFIFO: no byte is held, FIFOOvfl and the sum of lost bytes are cleared, and the alerts are judged.
 fn flushed(chip: &mut Chip)
-    ensures { Turns (λ m. fifo_alerted m (fifo_flushed m)) chip.old chip.new }
+    ensures { Turns (λ m. alerted m (flushed m)) chip.old chip.new }
 {
     let before = alerts_of(chip);
     emptied(chip);
@@ -105,7 +105,7 @@ fn modes_written(chip: &mut Chip, v: u8)
 
 // Control is written (manual 2.4): the FIFO is flushed, the timer stopped and then started, as bits 0, 2 and 1 say; bits 5 and 4 are the power modes'.
 fn control_written(chip: &mut Chip, v: u8)
-    ensures { Turns (λ m. fifo_alerted m (registers_register_written 0x09 v m)) chip.old chip.new }
+    ensures { Turns (λ m. alerted m (register_written 0x09 v m)) chip.old chip.new }
 {
     if v % 2 == 1 {
         flushed(chip);
@@ -122,7 +122,7 @@ fn control_written(chip: &mut Chip, v: u8)
 // Page is stored with its bits 7 and 2-0, at every eighth address; 10h-2Fh are stored whole. Nothing is done at Command and FIFOData, and at the registers
 // that a write does not change.
 pub fn register_written(chip: &mut Chip, register: u8, v: u8)
-    ensures { Turns (λ m. fifo_alerted m (other_written register v m)) chip.old chip.new }
+    ensures { Turns (λ m. alerted m (other_written register v m)) chip.old chip.new }
 {
     if register % 8 == 0 {
         chip.state[PAGE] = 128 * (v / 128 % 2) + v % 8;

@@ -85,4 +85,5 @@ pub returns-in_default : goal.returns-in_default
 returns-in_default c sizes =
     let a = c.args in
     let old = a.chip.now in
-    quiet_write a.register a.v (stays old sizes) (low_unused a.register a.v (view old) c.if-register-eq0.false (omega (arith, c.if-register-ge16.false)) c.in_default.in_default-own.rest) refl refl
+    let unused = low_unused a.register a.v (view old) c.if-register-eq0.false (omega arith) (omega arith) (omega arith) (omega arith) (omega arith) in
+    quiet_write a.register a.v (stays old sizes) unused refl refl

@@ -8,7 +8,7 @@ ghost use Rattle.machine.specs.Fifo.{flushed, alerted};
 ghost use Rattle.machine.specs.Registers.{interrupts_written, register_written};
 ghost use Rattle.state.specs.View.{interrupts_of};
 ghost use Rattle.state.specs.Turns.{Turns};
-ghost use Rattle.register_write.specs.Written.{other_written, bit_after, NumberWritten, both_written};
+ghost use Rattle.register_write.specs.Written.{other_written, ModeWritten, both_written};
 
 use state::{
     BIT_FRAMING, CONTROL, Chip, ENABLES, LOST_SUM, PAGE, POWER_DOWN, REQUESTS, STAND_BY,
@@ -50,34 +50,40 @@ fn flushed(chip: &mut Chip)
     alerted(chip, before);
 }
 
-// The bit of a power mode after a write to it: a mode with hold keeps its bit until it is left.
-fn mode_bit(was: bool, number: u16, bit: bool) -> bool
-    ensures { result ≡ bit_after was number bit }
-{
-    bit | (was & (number >= 0x8000))
+// A power mode: its bit of Control, and its number.
+#[derive(Clone, Copy)]
+struct Mode {
+    bit: bool,
+    number: u16,
 }
 
-// The number of a power mode after a write to its bit. From off it takes hold, or waits for a programming; a mode that waits has no number; one with hold
-// keeps it by a 1, and by a 0 begins its leaving, if that has not begun.
-fn mode_number(was: bool, number: u16, bit: bool, programs: bool, begun: u16) -> u16
-    ensures { 0x8000 < begun → NumberWritten was number bit programs begun result }
-{
-    if !was {
-        if bit & !programs {
-            return 0x8000;
+impl Mode {
+    // The mode after a write to its bit. From off it takes hold, or waits for a programming. A mode that waits has no number. One with hold keeps its bit until it
+    // is left; by a 1 it keeps its hold, and by a 0 begins its leaving, if that has not begun.
+    fn written(self, bit: bool, programs: bool, begun: u16) -> Mode
+        ensures { 0x8000 < begun → ModeWritten self bit programs begun result }
+    {
+        if !self.bit {
+            let number = if bit & !programs { 0x8000 } else { 0 };
+            return Mode { bit, number };
         }
-        return 0;
+        if self.number < 0x8000 {
+            return Mode { bit, number: 0 };
+        }
+        if bit {
+            return Mode {
+                bit: true,
+                number: 0x8000,
+            };
+        }
+        if self.number == 0x8000 {
+            return Mode {
+                bit: true,
+                number: begun,
+            };
+        }
+        self
     }
-    if number < 0x8000 {
-        return 0;
-    }
-    if bit {
-        return 0x8000;
-    }
-    if number == 0x8000 {
-        return begun;
-    }
-    number
 }
 
 // StandBy and PowerDown (manual 9.10), each by its own bit of the byte written. Nothing is to be done where both are off and stay so.
@@ -88,19 +94,22 @@ fn modes_written(chip: &mut Chip, v: u8)
     if (control == 0) & (v / 16 % 4 == 0) {
         return;
     }
-    let programming = chip.programs();
-    let standby = chip.numbers[STAND_BY];
-    let powerdown = chip.numbers[POWER_DOWN];
-    let first = control / 32 % 2 == 1;
-    let second = control / 16 % 2 == 1;
+    let programs = chip.programs();
+    let standby = Mode {
+        bit: control / 32 % 2 == 1,
+        number: chip.numbers[STAND_BY],
+    };
+    let powerdown = Mode {
+        bit: control / 16 % 2 == 1,
+        number: chip.numbers[POWER_DOWN],
+    };
     let high = v / 32 % 2 == 1;
     let low = v / 16 % 2 == 1;
-    chip.numbers[STAND_BY] = mode_number(first, standby, high, programming, 0x8004);
-    chip.numbers[POWER_DOWN] = mode_number(second, powerdown, low, programming, 0x8200);
-    chip.state[CONTROL] = control_byte(
-        mode_bit(first, standby, high),
-        mode_bit(second, powerdown, low),
-    );
+    let first = standby.written(high, programs, 0x8004);
+    let second = powerdown.written(low, programs, 0x8200);
+    chip.numbers[STAND_BY] = first.number;
+    chip.numbers[POWER_DOWN] = second.number;
+    chip.state[CONTROL] = control_byte(first.bit, second.bit);
 }
 
 // Control is written (manual 2.4): the FIFO is flushed, the timer stopped and then started, as bits 0, 2 and 1 say; bits 5 and 4 are the power modes'.

@@ -18,7 +18,8 @@ use Rattle.state.specs.Turns.{Sizes, Turned, ControlIs}
 use Rattle.state.specs.declared.Chip.{Chip}
 use Rattle.state.proofs.PowerLaws.{modes_stored}
 use Rattle.state.proofs.TurnLaws.{stays, becomes}
-use Rattle.register_write.specs.Written.{bit_after, NumberWritten, both_written}
+use Rattle.register_write.specs.Written.{ModeWritten, both_written}
+use Rattle.register_write.specs.declared.Mode.{Mode}
 
 -- A mode whose bit is 0, and is written 0, stays off.
 stays_off : (whole number : ℕ) (programs : Bool) {was bit : Bool} → was ≡ false → bit ≡ false → mode_of was number ≡ mode_written whole programs bit (mode_of was number)
@@ -37,25 +38,23 @@ both_off v c sizes none =
     becomes (both_written v) (stays c sizes) (λ i. with_modes (record { stand_by = stand i; power_down = down i }) (view c))
 
 -- Each mode is written by the programming, its bit and its number before the write; what is stored is the mode written.
-pub both_written_lem : (v : ℕ) (c : Chip) {programming first second : Bool} {control stand_by power_down : ℕ} → Sizes c →
-    programming ≡ programs (view c).command →
-    NumberWritten (bit_set (core c).control 5) (core c).stand_by (bit_set v 5) programming 0x8004 stand_by →
-    NumberWritten (bit_set (core c).control 4) (core c).power_down (bit_set v 4) programming 0x8200 power_down →
-    first ≡ bit_after (bit_set (core c).control 5) (core c).stand_by (bit_set v 5) →
-    second ≡ bit_after (bit_set (core c).control 4) (core c).power_down (bit_set v 4) →
-    ControlIs first second control →
-    Turned (both_written v) c (with_numbers (set (set c.numbers 4 stand_by) 5 power_down) (with_state (set c.state 1 control) c))
+pub both_written_lem : (v : ℕ) (c : Chip) {programs_now : Bool} {first second : Mode} {control : ℕ} → Sizes c →
+    programs_now ≡ programs (view c).command →
+    ModeWritten (record { bit = bit_set (core c).control 5; number = (core c).stand_by }) (bit_set v 5) programs_now 0x8004 first →
+    ModeWritten (record { bit = bit_set (core c).control 4; number = (core c).power_down }) (bit_set v 4) programs_now 0x8200 second →
+    ControlIs first.bit second.bit control →
+    Turned (both_written v) c (with_numbers (set (set c.numbers 4 first.number) 5 second.number) (with_state (set c.state 1 control) c))
 unfolding view_of
-both_written_lem v c {control = control} {stand_by = stand_by} {power_down = power_down} sizes reads stand down stand-bit down-bit is =
-    let (stand-is, stand-agrees) = as_stored stand (is.stand_by_lem ∙ stand-bit) in
-    let (down_is, down-agrees) = as_stored down (is.power_down_lem ∙ down-bit) in
+both_written_lem v c {first = first} {second = second} {control = control} sizes reads stand down is =
+    let (stand-is, stand-agrees) = as_stored stand is.stand_by_lem in
+    let (down_is, down-agrees) = as_stored down is.power_down_lem in
     becomes (both_written v)
-    (modes_stored (modes_written (programs (view c).command) v (view c).status.modes) control stand_by power_down c sizes
+    (modes_stored (modes_written (programs (view c).command) v (view c).status.modes) control first.number second.number c sizes
     ((λ i. record { stand_by = stand-is i; power_down = down_is i }) ∙ ap (λ (p : Bool). modes_written p v (view c).status.modes) reads)
     (both stand-agrees down-agrees)
     is.formed)
     refl
   where
-    as_stored : {was bit p b : Bool} {number begun next : ℕ} → NumberWritten was number bit p begun next → b ≡ bit_after was number bit →
-        (mode_of b next ≡ mode_written (begun - 0x8000) p bit (mode_of was number)) × (mode_agrees b next ≡ true)
-    as_stored {next = next} written b-is = (ap (λ (t : Bool). mode_of t next) b-is ∙ written.mode, ap (λ (t : Bool). mode_agrees t next) b-is ∙ written.agrees)
+    as_stored : {was : Mode} {bit p b : Bool} {begun : ℕ} {next : Mode} → ModeWritten was bit p begun next → b ≡ next.bit →
+        (mode_of b next.number ≡ mode_written (begun - 0x8000) p bit (mode_of was.bit was.number)) × (mode_agrees b next.number ≡ true)
+    as_stored {next = next} written b-is = (ap (λ (t : Bool). mode_of t next.number) b-is ∙ written.mode, ap (λ (t : Bool). mode_agrees t next.number) b-is ∙ written.agrees)

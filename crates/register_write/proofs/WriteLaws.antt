@@ -95,10 +95,10 @@ module _ (r v : ℕ) (m : Machine) where
     pub high_unused : 0x30 ≤ r → m ≡ other_written r v m
     high_unused high = sym (above (omega arith) ∙ simp (le-leb 0x10 r (omega arith), le-ltb r 0x30 high))
 
-    -- Command, FIFOData and those that a write does not change. The shape of the premise is that of a `match`'s last arm.
-    pub low_unused : r < 0x10 → ((((Unit {0} × (r ≡ 0x06 → ⊥)) × (r ≡ 0x07 → ⊥)) × (r ≡ 0x09 → ⊥)) × (r ≡ 0x0F → ⊥)) → m ≡ other_written r v m
+    -- Command, FIFOData and those that a write does not change.
+    pub low_unused : r < 0x10 → (r ≡ 0x06 → ⊥) → (r ≡ 0x07 → ⊥) → (r ≡ 0x09 → ⊥) → (r ≡ 0x0F → ⊥) → m ≡ other_written r v m
     unfolding other_written
-    low_unused low ((((u, n06), n07), n09), n0f) = go (eqb r 0x01) (eqb r 0x02) refl refl
+    low_unused low n06 n07 n09 n0f = go (eqb r 0x01) (eqb r 0x02) refl refl
       where
         go : (a b : Bool) → eqb r 0x01 ≡ a → eqb r 0x02 ≡ b → m ≡ other_written r v m
         go true b n01 n02 = sym (simp n01)

@@ -4,11 +4,11 @@
 #![tactic(auto)]
 
 ghost use Rattle.std.specs.Prelude.{◌/◌, ◌<◌, ◌≡◌};
-ghost use Rattle.machine.specs.Fifo.{flushed as fifo_flushed, alerted as fifo_alerted};
-ghost use Rattle.machine.specs.Registers.{interrupts_written, register_written as registers_register_written};
+ghost use Rattle.machine.specs.Fifo.{flushed, alerted};
+ghost use Rattle.machine.specs.Registers.{interrupts_written, register_written};
 ghost use Rattle.state.specs.View.{interrupts_of, with_clocks, with_numbers, with_registers, with_state};
 ghost use Rattle.state.specs.Turns.{Turns};
-ghost use Rattle.register_write.specs.Written.{other_written, bit_after, NumberWritten, both_written};
+ghost use Rattle.register_write.specs.Written.{other_written, ModeWritten, both_written};
 
 use state::{
     BIT_FRAMING, CONTROL, Chip, ENABLES, LOST_SUM, PAGE, POWER_DOWN, REQUESTS, STAND_BY,
@@ -32,7 +32,7 @@ fn marked_bits(old: u8, v: u8) -> u8
 
 // FIFOLevel is written, and the alerts are judged by the new WaterLevel.
 fn level_written(chip: &mut Chip, v: u8)
-    ensures turns { Turns (λ m. fifo_alerted m (registers_register_written 0x29 v m)) chip.old chip.new }
+    ensures turns { Turns (λ m. alerted m (register_written 0x29 v m)) chip.old chip.new }
     ensures rest { chip.new ≡ with_state chip.new.state (with_registers chip.new.registers chip.old) }
 {
     let before = alerts_of(chip);
@@ -42,7 +42,7 @@ fn level_written(chip: &mut Chip, v: u8)
 
 // FlushFIFO: no byte is held, FIFOOvfl and the sum of lost bytes are cleared, and the alerts are judged.
 fn flushed(chip: &mut Chip)
-    ensures turns { Turns (λ m. fifo_alerted m (fifo_flushed m)) chip.old chip.new }
+    ensures turns { Turns (λ m. alerted m (flushed m)) chip.old chip.new }
     ensures rest { chip.new ≡ with_numbers chip.new.numbers (with_state chip.new.state chip.old) }
 {
     let before = alerts_of(chip);
@@ -52,34 +52,40 @@ fn flushed(chip: &mut Chip)
     alerted(chip, before);
 }
 
-// The bit of a power mode after a write to it: a mode with hold keeps its bit until it is left.
-fn mode_bit(was: bool, number: u16, bit: bool) -> bool
-    ensures { result ≡ bit_after was number bit }
-{
-    bit | (was & (number >= 0x8000))
+// A power mode: its bit of Control, and its number.
+#[derive(Clone, Copy)]
+struct Mode {
+    bit: bool,
+    number: u16,
 }
 
-// The number of a power mode after a write to its bit. From off it takes hold, or waits for a programming; a mode that waits has no number; one with hold
-// keeps it by a 1, and by a 0 begins its leaving, if that has not begun.
-fn mode_number(was: bool, number: u16, bit: bool, programs: bool, begun: u16) -> u16
-    ensures { 0x8000 < begun → NumberWritten was number bit programs begun result }
-{
-    if !was {
-        if bit & !programs {
-            return 0x8000;
+impl Mode {
+    // The mode after a write to its bit. From off it takes hold, or waits for a programming. A mode that waits has no number. One with hold keeps its bit until it
+    // is left; by a 1 it keeps its hold, and by a 0 begins its leaving, if that has not begun.
+    fn written(self, bit: bool, programs: bool, begun: u16) -> Mode
+        ensures { 0x8000 < begun → ModeWritten self bit programs begun result }
+    {
+        if !self.bit {
+            let number = if bit & !programs { 0x8000 } else { 0 };
+            return Mode { bit, number };
         }
-        return 0;
+        if self.number < 0x8000 {
+            return Mode { bit, number: 0 };
+        }
+        if bit {
+            return Mode {
+                bit: true,
+                number: 0x8000,
+            };
+        }
+        if self.number == 0x8000 {
+            return Mode {
+                bit: true,
+                number: begun,
+            };
+        }
+        self
     }
-    if number < 0x8000 {
-        return 0;
-    }
-    if bit {
-        return 0x8000;
-    }
-    if number == 0x8000 {
-        return begun;
-    }
-    number
 }
 
 // StandBy and PowerDown (manual 9.10), each by its own bit of the byte written. Nothing is to be done where both are off and stay so.
@@ -91,24 +97,27 @@ fn modes_written(chip: &mut Chip, v: u8)
     if (control == 0) & (v / 16 % 4 == 0) {
         return;
     }
-    let programming = chip.programs();
-    let standby = chip.numbers[STAND_BY];
-    let powerdown = chip.numbers[POWER_DOWN];
-    let first = control / 32 % 2 == 1;
-    let second = control / 16 % 2 == 1;
+    let programs = chip.programs();
+    let standby = Mode {
+        bit: control / 32 % 2 == 1,
+        number: chip.numbers[STAND_BY],
+    };
+    let powerdown = Mode {
+        bit: control / 16 % 2 == 1,
+        number: chip.numbers[POWER_DOWN],
+    };
     let high = v / 32 % 2 == 1;
     let low = v / 16 % 2 == 1;
-    chip.numbers[STAND_BY] = mode_number(first, standby, high, programming, 0x8004);
-    chip.numbers[POWER_DOWN] = mode_number(second, powerdown, low, programming, 0x8200);
-    chip.state[CONTROL] = control_byte(
-        mode_bit(first, standby, high),
-        mode_bit(second, powerdown, low),
-    );
+    let first = standby.written(high, programs, 0x8004);
+    let second = powerdown.written(low, programs, 0x8200);
+    chip.numbers[STAND_BY] = first.number;
+    chip.numbers[POWER_DOWN] = second.number;
+    chip.state[CONTROL] = control_byte(first.bit, second.bit);
 }
 
 // Control is written (manual 2.4): the FIFO is flushed, the timer stopped and then started, as bits 0, 2 and 1 say; bits 5 and 4 are the power modes'.
 fn control_written(chip: &mut Chip, v: u8)
-    ensures turns { Turns (λ m. fifo_alerted m (registers_register_written 0x09 v m)) chip.old chip.new }
+    ensures turns { Turns (λ m. alerted m (register_written 0x09 v m)) chip.old chip.new }
     ensures rest { chip.new ≡ with_clocks chip.new.clocks (with_numbers chip.new.numbers (with_state chip.new.state chip.old)) }
 {
     if v % 2 == 1 {
@@ -126,7 +135,7 @@ fn control_written(chip: &mut Chip, v: u8)
 // Page is stored with its bits 7 and 2-0, at every eighth address; 10h-2Fh are stored whole. Nothing is done at Command and FIFOData, and at the registers
 // that a write does not change.
 pub fn register_written(chip: &mut Chip, register: u8, v: u8)
-    ensures turns { Turns (λ m. fifo_alerted m (other_written register v m)) chip.old chip.new }
+    ensures turns { Turns (λ m. alerted m (other_written register v m)) chip.old chip.new }
     ensures rest { chip.new ≡ with_clocks chip.new.clocks (with_numbers chip.new.numbers (with_state chip.new.state (with_registers chip.new.registers chip.old))) }
 {
     if register % 8 == 0 {

@@ -6,7 +6,7 @@
 ghost use Rattle.std.specs.Prelude.{◌%◌, ◌^◌, ◌≤◌, not, ◌&&◌, ◌≡◌, eqb};
 ghost use Rattle.bits.specs.Bits.{bit_set};
 ghost use Rattle.machine.specs.State.{Timer, with_timer};
-ghost use Rattle.machine.specs.Timer.{timer_stopped as timer_timer_stopped, timer_started as timer_timer_started};
+ghost use Rattle.machine.specs.Timer.{timer_stopped, timer_started};
 ghost use Rattle.state.specs.View.{with_clocks, with_state};
 ghost use Rattle.state.specs.Turns.{Turns};
 
@@ -26,7 +26,7 @@ fn timer_set(chip: &mut Chip, running: bool, value: u8, prescaler: u8)
 
 // The timer stops, and its value stays.
 pub fn timer_stopped(chip: &mut Chip)
-    ensures turns { Turns timer_timer_stopped chip.old chip.new }
+    ensures turns { Turns timer_stopped chip.old chip.new }
     ensures rest { chip.new ≡ with_clocks chip.new.clocks (with_state chip.new.state chip.old) }
 {
     let value = chip.state[VALUE];
@@ -35,7 +35,7 @@ pub fn timer_stopped(chip: &mut Chip)
 
 // TimerReload and TPreScaler are loaded; a reload of 0 and a prescaler above 21 stop the timer at 0.
 pub fn timer_started(chip: &mut Chip)
-    ensures turns { Turns timer_timer_started chip.old chip.new }
+    ensures turns { Turns timer_started chip.old chip.new }
     ensures rest { chip.new ≡ with_clocks chip.new.clocks (with_state chip.new.state chip.old) }
 {
     let reload = chip.registers[0x2C - 0x10];

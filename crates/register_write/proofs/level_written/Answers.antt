@@ -6,7 +6,5 @@ use Rattle.register_write.proofs.level_written.Goals as goal
 pub returns-clause-turns : goal.returns-clause-turns
 unfolding register_written
 returns-clause-turns c sizes =
-    let counts = c.before.before.before in
-    let a = counts.args in
-    let writes = register_stored 0x19 a.v a.chip.now sizes in
-    judged counts.alerts_of-before.result counts.alerts_of-before.ensures.is writes (c.alerted.ensures.turns writes.sizes)
+    let writes = register_stored 0x19 c.args.v c.args.chip.now sizes in
+    judged c.alerts_of-before.result c.alerts_of-before.ensures.is writes (c.alerted.ensures.turns writes.sizes)

@@ -20,6 +20,7 @@ returns-then-count-eq0 c =
       turns = λ sizes.
           becomes (λ m. alerted m (with_held (rest_of m.held) m)) (stays old sizes)
           (sym (alerted_same (view old)) ∙ ap (λ (l : List ℕ). alerted (view old) (with_held l (view old))) (sym (none_rest held empty)));
+      rest = refl;
     }
 
 pub returns : goal.returns
@@ -41,4 +42,5 @@ returns c =
           becomes (λ m. alerted m (rest m)) (then leaves (c.requested.ensures.turns leaves.sizes))
           (alerts_over (view old) (rest (view old)) n (n - 1) level.result c.alerts.result c.alerts-2.result level.ensures refl (count_length p old.slots)
           (ap (λ (k : ℕ). k - 1) (count_length p old.slots) ∙ sym (length_rest held)) c.alerts.ensures.is c.alerts-2.ensures.is);
+      rest = c.requested.ensures.rest;
     }

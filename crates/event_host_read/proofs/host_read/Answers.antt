@@ -1,28 +1,25 @@
 -- `event_host_read::host_read` meets its contract, by the refusals in their order, and by the register. Assumes nothing.
 use borrow.Author.Tests.{lt-ltb}
+use Prim.Native.Nat.{◌<◌}
 use native.Mathlib.Omega.{arith}
-use mathlib.Core.Path.{sym, ap, ◌∙◌}
-use mathlib.Core.Bool.{Bool}
+use mathlib.Core.Path.{◌≡◌, sym, ap, ◌∙◌}
+use mathlib.Core.Bool.{Bool, true}
 use Rattle.machine.specs.Refusals.{host_read, refuse_if}
 use Rattle.machine.specs.Registers.{register_read}
 use Rattle.state.specs.View.{view, view_of}
+use Rattle.state.specs.Formed.{chip_formed}
 use Rattle.state.specs.Meets.{Whole}
 use Rattle.state.proofs.MeetLaws.{refused, malformed, read_refusal}
 use Rattle.event_host_read.proofs.ReadLaws.{read_as, Passes, read_removes, read_leaves}
 use Rattle.event_host_read.proofs.host_read.Goals as goal
 use Rattle.event_host_read.proofs.host_read.Goals.{After-mapped-register}
 
+-- What is known once the register is.
 passes :
     (found : After-mapped-register) → let old = found.args.chip.now in
-    Whole old → Passes old found.args.address found.mapped-register.result
+    found.args.address < 64 → chip_formed old ≡ true → Whole old → Passes old found.args.address found.mapped-register.result
 unfolding view_of
-passes found whole =
-    record {
-      formed = sym (found.well_formed-2.ensures whole.sizes) ∙ found.if-not-well_formed.false;
-      whole = whole;
-      low = omega (arith, found.if-address-ge64.false);
-      is = found.mapped-register.ensures;
-    }
+passes found low formed whole = record { formed = formed; whole = whole; low = low; is = found.mapped-register.ensures }
 
 pub returns-then-not-well_formed : goal.returns-then-not-well_formed
 returns-then-not-well_formed c whole = malformed c.args.chip.now (host_read _) tt (sym (c.well_formed-2.ensures whole.sizes) ∙ c.if-not-well_formed.true) whole
@@ -31,23 +28,21 @@ pub returns-then-address-ge64 : goal.returns-then-address-ge64
 returns-then-address-ge64 c whole =
     let old = c.args.chip.now in
     let address = c.args.address in
-    refused old (host_read _) 0
-    (read_refusal old (sym (c.well_formed-2.ensures whole.sizes) ∙ c.if-not-well_formed.false) address 1
-    (ap (λ (t : Bool). refuse_if t 1 0) (lt-ltb 63 address (omega (arith, c.if-address-ge64.true))))).0 whole
+    refused old (host_read _) 0 (read_refusal old (sym (c.well_formed-2.ensures whole.sizes) ∙ c.if-not-well_formed.false) address 1 (ap (λ (t : Bool). refuse_if t 1 0) (lt-ltb 63 address (omega (arith, c.if-address-ge64.true))))).0 whole
 
 pub returns-then-register-eq3 : goal.returns-then-register-eq3
 unfolding view_of register_read
 returns-then-register-eq3 c whole =
-    let passed = passes (goal.at.returns-then-register-eq3 c).After-mapped-register whole in
+    let passed = passes (goal.at.returns-then-register-eq3 c).After-mapped-register (omega (arith, c.if-address-ge64.false)) (sym (c.well_formed-2.ensures whole.sizes) ∙ c.if-not-well_formed.false) whole in
     read_leaves passed _ (λ e. omega (arith, e, c.if-register-eq3.true))
     (read_as _ 0x03 _ (view c.args.chip.now) c.if-register-eq3.true (c.primary_status.ensures passed.formed))
 
 pub returns-then-register-eq2 : goal.returns-then-register-eq2
 returns-then-register-eq2 c whole =
-    read_removes (passes (goal.at.returns-then-register-eq2 c).After-mapped-register whole) c.fifo_read.new.chip _ c.if-register-eq2.true
-    c.fifo_read.ensures.reads (c.fifo_read.ensures.turns whole.sizes)
+    let passed = passes (goal.at.returns-then-register-eq2 c).After-mapped-register (omega (arith, c.if-address-ge64.false)) (sym (c.well_formed-2.ensures whole.sizes) ∙ c.if-not-well_formed.false) whole in
+    read_removes passed c.fifo_read.new.chip _ c.if-register-eq2.true c.fifo_read.ensures.reads (c.fifo_read.ensures.turns whole.sizes)
 
 pub returns : goal.returns
 returns c whole =
-    let passed = passes (goal.at.returns c).After-mapped-register whole in
+    let passed = passes (goal.at.returns c).After-mapped-register (omega (arith, c.if-address-ge64.false)) (sym (c.well_formed-2.ensures whole.sizes) ∙ c.if-not-well_formed.false) whole in
     read_leaves passed _ c.if-register-eq2.false (c.read.ensures c.if-register-eq2.false c.if-register-eq3.false passed.formed)

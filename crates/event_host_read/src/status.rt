@@ -1,7 +1,7 @@
 // PrimaryStatus and SecondaryStatus (manual 2.3): the flags that they show.
 ghost use Rattle.std.specs.Prelude.{◌≡◌, not, ◌*◌, ◌<◌, ◌≤◌, eqb};
 ghost use Rattle.std.specs.Int.Bits.{bit_and};
-ghost use Rattle.machine.specs.Registers.{modem_state as registers_modem_state, primary_status as registers_primary_status, secondary_status as registers_secondary_status};
+ghost use Rattle.machine.specs.Registers.{modem_state, primary_status, secondary_status};
 ghost use Rattle.state.specs.Turns.{Reads};
 ghost use Rattle.event_host_read.specs.Shown.{Shows};
 
@@ -26,7 +26,7 @@ fn err(errors: u8) -> bool
 // ModemState where PrimaryStatus has it, in bits 6-4: AwaitingRx while the chip receives, TxData while a frame waits to be taken. No stage below 5Ah sends or
 // receives; that is asked first, since a chip that is polled has such a stage most of the time.
 fn modem_state(chip: &Chip) -> u8
-    ensures is { Reads (λ m. 16 * registers_modem_state m) chip.now result }
+    ensures is { Reads (λ m. 16 * modem_state m) chip.now result }
     ensures small { result ≤ 0x60 }
 {
     if chip.state[STAGE] < 0x5A {
@@ -43,7 +43,7 @@ fn modem_state(chip: &Chip) -> u8
 
 // PrimaryStatus (03h): ModemState in bits 6-4; IRq, Err, HiAlert and LoAlert in bits 3-0.
 pub fn primary_status(chip: &Chip) -> u8
-    ensures { Shows registers_primary_status chip.now result }
+    ensures { Shows primary_status chip.now result }
 {
     modem_state(chip)
         + 8 * flag(irq(chip.state[ENABLES], chip.state[REQUESTS]))
@@ -53,7 +53,7 @@ pub fn primary_status(chip: &Chip) -> u8
 
 // SecondaryStatus (05h): TRunning, E2Ready and CRCReady in bits 7-5, RxLastBits in bits 2-0.
 pub fn secondary_status(chip: &Chip) -> u8
-    ensures { Shows registers_secondary_status chip.now result }
+    ensures { Shows secondary_status chip.now result }
 {
     128 * flag(chip.state[RUNNING] == 1)
         + 64 * flag(!chip.programs())

@@ -6,8 +6,8 @@
 #![tactic(auto)]
 
 ghost use Rattle.std.specs.Prelude.{◌≡◌, [], ◌∷◌};
-ghost use Rattle.machine.specs.WellFormed.{checksum_formed as well_formed_checksum_formed};
-ghost use Rattle.state_clauses.specs.Clauses.{named_formed, flags_formed as clauses_flags_formed, timer_fields_formed, programming_formed, mode_fields_formed, modes_fields_formed, room_of, edition_fields_formed};
+ghost use Rattle.machine.specs.WellFormed.{checksum_formed};
+ghost use Rattle.state_clauses.specs.Clauses.{named_formed, flags_formed, timer_fields_formed, programming_formed, mode_fields_formed, modes_fields_formed, room_of, edition_fields_formed};
 
 use edition::{MFRC531, RC530};
 use state::modes_word;
@@ -15,7 +15,7 @@ use state_timer::period;
 
 // ErrorFlag, InterruptRq, InterruptEn and the key's flag have 0 where they always read 0: each byte has none of a mask's bits.
 pub fn flags_formed(loaded: u8, enables: u8, requests: u8, errors: u8) -> bool
-    ensures { result ≡ clauses_flags_formed loaded enables requests errors }
+    ensures { result ≡ flags_formed loaded enables requests errors }
 {
     (errors & 0x85 == 0) & ((requests & 0xC0 == 0) & ((enables & 0xC0 == 0) & (loaded & 0xFE == 0)))
 }
@@ -29,7 +29,7 @@ pub fn bits_formed(page: u8, control: u8, last: u8) -> bool
 
 // A checksum of eight bits is below 100h.
 pub fn checksum_formed(register: u16, mode: u8) -> bool
-    ensures { result ≡ well_formed_checksum_formed (record { register = register; mode = mode }) }
+    ensures { result ≡ checksum_formed (record { register = register; mode = mode }) }
 {
     (mode / 16 % 2 == 0) | (register < 0x100)
 }

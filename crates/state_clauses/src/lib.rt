@@ -69,6 +69,7 @@ pub fn modes_formed(control: u8, standby: u16, powerdown: u16, left: u32) -> boo
 }
 
 // One more than the most bytes that may wait; 0 where the stage is none. While WriteE2 programs, 64 may.
+// Kept: an Option is no plainer here, since 0 for no stage lets the one test that fewer are held refuse it too.
 pub fn room(stage: u8, left: u32) -> u8
     ensures { result ≡ room_of stage left }
 {

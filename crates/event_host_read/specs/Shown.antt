@@ -7,5 +7,5 @@ use Rattle.state.specs.Formed.{chip_formed}
 use Rattle.state.specs.declared.Chip.{Chip}
 
 -- A function that reads where the chip is well formed: its answer is what a definition gives of the machine.
-abbrev pub Shows : (Machine → ℕ) → (Chip → Chip) → ℕ → Type 0
-Shows f lent r = (c : Chip) → chip_formed (lent c) ≡ true → r ≡ f (view (lent c))
+abbrev pub Shows : (Machine → ℕ) → Chip → ℕ → Type 0
+Shows f c r = chip_formed c ≡ true → r ≡ f (view c)

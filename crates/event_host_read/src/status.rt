@@ -1,15 +1,11 @@
 // PrimaryStatus and SecondaryStatus (manual 2.3): the flags that they show.
 ghost use Rattle.std.specs.Prelude.{◌≡◌, not, ◌*◌, ◌<◌, ◌≤◌, eqb};
 ghost use Rattle.std.specs.Int.Bits.{bit_and};
-ghost use Rattle.machine.specs.Registers.{modem_state as registers_modem_state, primary_status as registers_primary_status, secondary_status as registers_secondary_status};
-ghost use Rattle.state.specs.View.{with_state};
-ghost use Rattle.state.specs.Lent.{clocks_state, state_registers};
+ghost use Rattle.machine.specs.Registers.{modem_state, primary_status, secondary_status};
 ghost use Rattle.state.specs.Turns.{Reads};
 ghost use Rattle.event_host_read.specs.Shown.{Shows};
 
-use state::{
-    ENABLES, ERRORS, REQUESTS, RUNNING, RX_LAST_BITS, STAGE, frame_waits, programs, receives,
-};
+use state::{Chip, ENABLES, ERRORS, REQUESTS, RUNNING, RX_LAST_BITS, STAGE};
 use state_fifo::{alerts_of, flag};
 
 // IRq: a request is also enabled.
@@ -29,38 +25,38 @@ fn err(errors: u8) -> bool
 
 // ModemState where PrimaryStatus has it, in bits 6-4: AwaitingRx while the chip receives, TxData while a frame waits to be taken. No stage below 5Ah sends or
 // receives; that is asked first, since a chip that is polled has such a stage most of the time.
-fn modem_state(state: &[u8; 24]) -> u8
-    ensures is { Reads (λ m. 16 * registers_modem_state m) (with_state state.now) result }
+fn modem_state(chip: &Chip) -> u8
+    ensures is { Reads (λ m. 16 * modem_state m) chip.now result }
     ensures small { result ≤ 0x60 }
 {
-    if state[STAGE] < 0x5A {
+    if chip.state[STAGE] < 0x5A {
         return 0x00;
     }
-    if receives(state) {
+    if chip.receives() {
         return 0x60;
     }
-    if frame_waits(state) {
+    if chip.frame_waits() {
         return 0x20;
     }
     0x00
 }
 
 // PrimaryStatus (03h): ModemState in bits 6-4; IRq, Err, HiAlert and LoAlert in bits 3-0.
-pub fn primary_status(state: &[u8; 24], registers: &[u8; 32]) -> u8
-    ensures { Shows registers_primary_status (state_registers state.now registers.now) result }
+pub fn primary_status(chip: &Chip) -> u8
+    ensures { Shows primary_status chip.now result }
 {
-    modem_state(state)
-        + 8 * flag(irq(state[ENABLES], state[REQUESTS]))
-        + 4 * flag(err(state[ERRORS]))
-        + alerts_of(state, registers)
+    modem_state(chip)
+        + 8 * flag(irq(chip.state[ENABLES], chip.state[REQUESTS]))
+        + 4 * flag(err(chip.state[ERRORS]))
+        + alerts_of(chip)
 }
 
 // SecondaryStatus (05h): TRunning, E2Ready and CRCReady in bits 7-5, RxLastBits in bits 2-0.
-pub fn secondary_status(clocks: &[u32; 2], state: &[u8; 24]) -> u8
-    ensures { Shows registers_secondary_status (clocks_state clocks.now state.now) result }
+pub fn secondary_status(chip: &Chip) -> u8
+    ensures { Shows secondary_status chip.now result }
 {
-    128 * flag(state[RUNNING] == 1)
-        + 64 * flag(!programs(clocks, state))
+    128 * flag(chip.state[RUNNING] == 1)
+        + 64 * flag(!chip.programs())
         + 32
-        + state[RX_LAST_BITS] % 8
+        + chip.state[RX_LAST_BITS] % 8
 }

@@ -1,17 +1,16 @@
 -- Laws for judging numbers by value: a byte's mask for each of its tests, a timer's tests without a choice, counts, and tests that are joined.
 -- Assumes nothing.
-use Prim.Native.Nat.{ℕ, zero, suc, ◌+◌, ◌*◌, ◌/◌, ◌%◌, ◌^◌, ◌<◌, ◌≤◌}
+use Prim.Native.Nat.{ℕ, suc, ◌+◌, ◌/◌, ◌%◌, ◌<◌, ◌≤◌}
 use native.Mathlib.Omega.{arith}
-use mathlib.Core.Path.{◌≡◌, refl, sym, ap, ◌∙◌}
-use mathlib.Core.Bool.{Bool, true, false, cond, not, and-false, ◌&&◌, ◌||◌}
+use mathlib.Core.Path.{◌≡◌, refl, sym, ◌∙◌}
+use mathlib.Core.Bool.{Bool, true, false, not, and-false, ◌&&◌}
 use lib.Bits.{bit_and, bit_or, and_le_l, and_le_r, or_add_and}
-use lib.Dec.{T, eqb, ltb, leb, leb-zero}
+use lib.Dec.{T, eqb, ltb, leb}
 use borrow.Author.Tests.{le-leb, leb-true, leb-false, eqb-true, eqb-false, eq-eqb, ne_eqb, lt-ltb, le-ltb}
 use Rattle.bits.specs.Bits.{bit}
 use Rattle.bits.proofs.Below.{all, each}
 use Rattle.crc.specs.Checksum.{crc8_bit}
-use Rattle.machine.specs.WellFormed.{timer_formed, bits_formed}
-use Rattle.state.specs.View.{is_set}
+use Rattle.machine.specs.WellFormed.{bits_formed}
 use Rattle.state.specs.Formed.{is_flag}
 use Rattle.state_clauses.specs.Clauses.{named_formed, flags_formed}
 
@@ -80,12 +79,6 @@ pub flags_judged : (loaded enables requests errors : ℕ) → loaded < 256 → e
     (eqb (bit_and errors 0x85) 0 && (eqb (bit_and requests 0xC0) 0 && (eqb (bit_and enables 0xC0) 0 && eqb (bit_and loaded 0xFE) 0))) ≡ flags_formed loaded enables requests errors
 flags_judged loaded enables requests errors l e r x = simp (flag_bits_lem loaded l, interrupt_bits enables e, interrupt_bits requests r, error_bits_lem errors x)
 
--- A test that is asked only where a bit is 1.
-pub where_set : (b : ℕ) (t : Bool) → b < 2 → (eqb b 0 || t) ≡ cond (eqb b 1) t true
-where_set zero t h = refl
-where_set (suc zero) t h = refl
-where_set (suc (suc b)) t h = absurd (omega arith)
-
 -- A number that is 0 exactly where two are, and the or of two is such a number.
 pub none_of : (a b n : ℕ) → (n ≡ 0 → (a ≡ 0) × (b ≡ 0)) → (a ≡ 0 → b ≡ 0 → n ≡ 0) → eqb n 0 ≡ (eqb a 0 && eqb b 0)
 none_of a b n only where-both = go (eqb a 0) (eqb b 0) refl refl
@@ -101,28 +94,6 @@ or_none a b =
     let low = and_le_r a b in
     let lower = and_le_l a b in
     none_of a b (bit_or a b) (λ h. (omega (arith, h), omega (arith, h))) (λ h k. omega (arith, h, k))
-
--- A timer's tests without a choice, for a flag that is 0 or 1. A prescaler that is kept is below 32.
-abbrev clocks : ℕ → ℕ
-clocks p = 2 ^ (p % 32)
-
-clocks_kept : (p : ℕ) → p < 32 → clocks p ≡ 2 ^ p
-clocks_kept p few = let same : p % 32 ≡ p = omega arith in ap (λ (n : ℕ). 2 ^ n) same
-
-below_one : (k : ℕ) → ltb k 1 ≡ eqb k 0
-below_one zero = refl
-below_one (suc k) = le-ltb (suc k) 1 (omega arith) ∙ sym (ne_eqb (suc k) 0 (λ e. omega (arith, e)))
-
-runs : (t : Bool) (v p k : ℕ) → v < 256 → leb p 21 ≡ t → (leb p 21 && (leb 1 v && ltb k (clocks p))) ≡ (leb 1 v && (leb v 255 && (leb p 21 && ltb k (2 ^ p))))
-runs true v p k h e = simp (e, le-leb v 255 (omega (arith, h)), clocks_kept p (omega (arith, leb-true p 21 e)))
-runs false v p k h e = simp (e, and-false)
-
-pub timer_judged : (r v p k : ℕ) → is_flag r ≡ true → v < 256 →
-    (leb p (21 * r) && (leb r v && ltb k (clocks p))) ≡ timer_formed (record { running = is_set r; value = v; prescaler = p; phase = k })
-timer_judged zero v zero k f h = simp (leb-zero, below_one)
-timer_judged zero v (suc p) k f h = simp (ne_eqb (suc p) 0 (λ e. omega (arith, e)), le-ltb p 0 (omega arith))
-timer_judged (suc zero) v p k f h = runs (leb p 21) v p k h refl
-timer_judged (suc (suc r)) v p k f h = absurd (omega (arith, leb-true (suc (suc r)) 1 f))
 
 -- A count that is below one more than so many.
 below_next : (t : Bool) (n l : ℕ) → leb n l ≡ t → ltb n (suc l) ≡ t

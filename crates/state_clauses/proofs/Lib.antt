@@ -1,3 +1,1 @@
 pub mod ByteLaws
-pub mod EditionLaws
-pub mod ModeLaws

@@ -5,30 +5,17 @@
 
 #![tactic(auto)]
 
-ghost use Rattle.std.specs.Prelude.{◌+◌, ◌*◌, ◌^◌, ◌≡◌, [], ◌∷◌};
-ghost use Rattle.machine.specs.WellFormed.{checksum_formed as well_formed_checksum_formed};
-ghost use Rattle.state_clauses.specs.Clauses.{named_formed, flags_formed as clauses_flags_formed, timer_fields_formed, programming_formed, mode_fields_formed, modes_fields_formed, room_of, edition_fields_formed};
+ghost use Rattle.std.specs.Prelude.{◌≡◌, [], ◌∷◌};
+ghost use Rattle.machine.specs.WellFormed.{checksum_formed};
+ghost use Rattle.state_clauses.specs.Clauses.{named_formed, flags_formed, timer_fields_formed, programming_formed, mode_fields_formed, modes_fields_formed, room_of, edition_fields_formed};
 
 use edition::{MFRC531, RC530};
 use state::modes_word;
 use state_timer::period;
 
-// Two numbers as one of twice the width.
-pub fn pair(high: u8, low: u8) -> u16
-    ensures { result ≡ high * 2 ^ 8 + low }
-{
-    high as u16 * 0x100 + low as u16
-}
-
-pub fn quad(high: u16, low: u16) -> u32
-    ensures { result ≡ high * 2 ^ 16 + low }
-{
-    high as u32 * 0x1_0000 + low as u32
-}
-
 // ErrorFlag, InterruptRq, InterruptEn and the key's flag have 0 where they always read 0: each byte has none of a mask's bits.
 pub fn flags_formed(loaded: u8, enables: u8, requests: u8, errors: u8) -> bool
-    ensures { result ≡ clauses_flags_formed loaded enables requests errors }
+    ensures { result ≡ flags_formed loaded enables requests errors }
 {
     (errors & 0x85 == 0) & ((requests & 0xC0 == 0) & ((enables & 0xC0 == 0) & (loaded & 0xFE == 0)))
 }
@@ -42,7 +29,7 @@ pub fn bits_formed(page: u8, control: u8, last: u8) -> bool
 
 // A checksum of eight bits is below 100h.
 pub fn checksum_formed(register: u16, mode: u8) -> bool
-    ensures { result ≡ well_formed_checksum_formed (record { register = register; mode = mode }) }
+    ensures { result ≡ checksum_formed (record { register = register; mode = mode }) }
 {
     (mode / 16 % 2 == 0) | (register < 0x100)
 }
@@ -82,6 +69,7 @@ pub fn modes_formed(control: u8, standby: u16, powerdown: u16, left: u32) -> boo
 }
 
 // One more than the most bytes that may wait; 0 where the stage is none. While WriteE2 programs, 64 may.
+// Kept: an Option is no plainer here, since 0 for no stage lets the one test that fewer are held refuse it too.
 pub fn room(stage: u8, left: u32) -> u8
     ensures { result ≡ room_of stage left }
 {
@@ -118,7 +106,7 @@ pub fn timer_formed(running: u8, value: u8, prescaler: u8, phase: u32) -> bool
 pub fn edition_formed(number: u8, a: u8, b: u8, c: u8, d: u8) -> bool
     ensures { result ≡ edition_fields_formed number (a ∷ b ∷ c ∷ d ∷ []) }
 {
-    let word = quad(pair(d, c), pair(b, a));
+    let word = u32::from_le_bytes([a, b, c, d]);
     if number == MFRC531 {
         return word == 0x0FFF_CC30;
     }

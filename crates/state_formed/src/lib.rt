@@ -9,7 +9,7 @@
 
 #![tactic(auto)]
 
-ghost use Rattle.std.specs.Prelude.{◌+◌, ◌*◌, ◌^◌, ◌&&◌, ◌≡◌, eqb};
+ghost use Rattle.std.specs.Prelude.{◌&&◌, ◌≡◌, eqb};
 ghost use Rattle.state.specs.View.{at};
 ghost use Rattle.state_clauses.specs.Clauses.{timer_fields_formed, edition_fields_formed};
 ghost use Rattle.state_formed.specs.Judged.{ReadsFields, Judges, first_clear, rests_with, usual_with, usual};
@@ -20,22 +20,15 @@ use state::{
     VALUE, modes_word,
 };
 use state_clauses::{
-    bits_formed, checksum_formed, edition_formed, flags_formed, modes_formed, pair, quad, room,
-    timer_formed, writing_formed,
+    bits_formed, checksum_formed, edition_formed, flags_formed, modes_formed, room, timer_formed,
+    writing_formed,
 };
-
-// Two numbers as one of twice the width.
-fn eight(high: u32, low: u32) -> u64
-    ensures { result ≡ high * 2 ^ 32 + low }
-{
-    high as u64 * 0x1_0000_0000 + low as u64
-}
 
 // Of the first eight bytes of state, as one word, the bits that always read 0, those of the power modes in Control, and CRC8.
 fn word(a: u8, b: u8, c: u8, d: u8, e: u8, f: u8, g: u8, h: u8) -> u64
     ensures { eqb result 0 ≡ first_clear a b c d e f g h }
 {
-    eight(quad(pair(h, g), pair(f, e)), quad(pair(d, c), pair(b, a))) & 0x85C0_10C0_F8FE_FF78
+    u64::from_le_bytes([a, b, c, d, e, f, g, h]) & 0x85C0_10C0_F8FE_FF78
 }
 
 // 0 where neither such a bit is set nor programming clocks are left nor a power mode has a number.
@@ -59,10 +52,8 @@ fn rests(stage: u8, count: u8) -> bool
 fn timer_kept(running: u8, value: u8, prescaler: u8, phase: u32) -> bool
     ensures { result ≡ timer_fields_formed running value prescaler phase }
 {
-    if pair(prescaler, running) == 0 {
-        if phase == 0 {
-            return true;
-        }
+    if u16::from_le_bytes([running, prescaler]) == 0 && phase == 0 {
+        return true;
     }
     timer_formed(running, value, prescaler, phase)
 }

@@ -1,23 +1,24 @@
 -- `event_host_read::status::modem_state` meets its contract: its tests in turn. Assumes nothing.
 use native.Mathlib.Omega.{arith}
 use mathlib.Core.Path.{sym, ◌∙◌}
-use Rattle.state.specs.View.{core, view_of, with_state}
+use Rattle.state.specs.View.{core, view_of}
 use Rattle.event_host_read.proofs.ShownLaws.{below_sends, below_receives}
 use Rattle.event_host_read.proofs.status.modem_state.Goals as goal
 
-pub returns-then-state-lt90 : goal.returns-then-state-lt90
+pub returns-then-chip-lt90 : goal.returns-then-chip-lt90
 unfolding view_of
-returns-then-state-lt90 c = record {
-  is = λ chip.
-      let k = core (with_state c.args.state.now chip) in
-      simp (below_receives k chip.latch c.if-state-lt90.true, below_sends k chip.latch c.if-state-lt90.true);
+returns-then-chip-lt90 c = record {
+  is =
+      let chip = c.args.chip.now in
+      let k = core chip in
+      simp (below_receives k chip.latch c.if-chip-lt90.true, below_sends k chip.latch c.if-chip-lt90.true);
   small = omega arith;
 }
 
 pub returns-then-receives : goal.returns-then-receives
 unfolding view_of
 returns-then-receives c = record {
-  is = λ chip. simp (sym (c.receives.ensures chip) ∙ c.if-receives.true);
+  is = simp (sym c.receives.ensures ∙ c.if-receives.true);
   small = omega arith;
 }
 
@@ -25,7 +26,7 @@ pub returns-then-frame_waits : goal.returns-then-frame_waits
 unfolding view_of
 returns-then-frame_waits c =
     record {
-      is = λ chip. simp (sym (c.receives.ensures chip) ∙ c.if-receives.false, sym (c.frame_waits.ensures chip) ∙ c.if-frame_waits.true);
+      is = simp (sym c.receives.ensures ∙ c.if-receives.false, sym c.frame_waits.ensures ∙ c.if-frame_waits.true);
       small = omega arith;
     }
 
@@ -33,6 +34,6 @@ pub returns : goal.returns
 unfolding view_of
 returns c =
     record {
-      is = λ chip. simp (sym (c.receives.ensures chip) ∙ c.if-receives.false, sym (c.frame_waits.ensures chip) ∙ c.if-frame_waits.false);
+      is = simp (sym c.receives.ensures ∙ c.if-receives.false, sym c.frame_waits.ensures ∙ c.if-frame_waits.false);
       small = omega arith;
     }

@@ -5,7 +5,6 @@ use native.Mathlib.Numerals.{add-one}
 use native.Mathlib.Omega.{arith}
 use mathlib.Core.Path.{◌≡◌, refl, sym, ap, ◌∙◌}
 use mathlib.Core.Bool.{Bool, true, false, cond, ◌||◌}
-use mathlib.Core.Logic.{◌⊎◌, inl, inr, ⊎_elim}
 use mathlib.Core.List.{List, [], ◌∷◌, ◌++◌}
 use lib.Dec.{eqb, leb, ltb}
 use lib.ListN.{length, get_or, take, drop, length-drop}
@@ -47,20 +46,13 @@ pub lost_next : (eeprom : List ℕ) (a i : ℕ) → a + i < length eeprom → (m
 lost_next eeprom a i inside m =
     lost_behind (bytes_from eeprom a i) (get_or eeprom (a + i) 0) m ∙ ap (λ (bs : List ℕ). lost_of bs m) (sym (bytes_next eeprom a i inside))
 
--- What may be read is nothing, or lies below 080h.
-may_read : (address count : ℕ) → readable address count ≡ true → (count ≡ 0) ⊎ (address + count ≤ 0x80)
-may_read address count is = go (eqb count 0) refl is
-  where
-    go : (t : Bool) → eqb count 0 ≡ t → (t || leb (address + count) 0x80) ≡ true → (count ≡ 0) ⊎ (address + count ≤ 0x80)
-    go true none h = inl (eqb-true count 0 none)
-    go false some h = inr (leb-true (address + count) 0x80 h)
-
--- So it lies in the EEPROM, and is at most 128 bytes.
+-- What may be read lies in the EEPROM.
 pub read_inside : (address count i : ℕ) → readable address count ≡ true → i < count → address + i < 512
-read_inside address count i is more = ⊎_elim (λ none. absurd (omega (arith, none))) (λ low. omega (arith, low)) (may_read address count is)
-
-pub few_read : (address count : ℕ) → readable address count ≡ true → count ≤ 128
-few_read address count is = ⊎_elim (λ none. omega (arith, none)) (λ low. omega (arith, low)) (may_read address count is)
+read_inside address count i is more = go (eqb count 0) refl is
+  where
+    go : (t : Bool) → eqb count 0 ≡ t → (t || leb (address + count) 0x80) ≡ true → address + i < 512
+    go true none h = let empty : count ≡ 0 = eqb-true count 0 none in absurd (omega arith)
+    go false some h = let low : address + count ≤ 0x80 = leb-true (address + count) 0x80 h in omega arith
 
 -- ReadE2 on its arguments, by whether every address that it wants may be read.
 module _ (address count : ℕ) (m : Machine) where

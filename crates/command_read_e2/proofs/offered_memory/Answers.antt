@@ -6,20 +6,12 @@ use Rattle.machine.specs.Memory.{bytes_from}
 use Rattle.state.specs.View.{view, view_of, with_numbers, with_state, with_slots}
 use Rattle.state.specs.declared.Chip.{Chip}
 use Rattle.state.proofs.TurnLaws.{stays, then, becomes}
-use Rattle.command_read_e2.proofs.ReadLaws.{offers_keep, offer_next, lost_next, few_read, read_inside}
+use Rattle.command_read_e2.proofs.ReadLaws.{offers_keep, offer_next, lost_next, read_inside}
 use Rattle.command_read_e2.proofs.offered_memory.Goals as goal
-use Rattle.command_read_e2.proofs.offered_memory.Goals.{In-loop-i}
-
--- Each byte that is offered lies in the EEPROM.
-inside : (c : In-loop-i) → c.args.address + c.loop-i.i < 512
-inside c = read_inside c.args.address c.args.count c.loop-i.i c.requires (omega arith)
 
 pub loop-i-init : goal.loop-i-init
 unfolding offered_all lost_of
 loop-i-init c = (search rules, λ sizes. (stays _ sizes, refl), refl)
-
-pub bounds-chip-start : goal.bounds-chip-start
-bounds-chip-start c = inside (goal.at.bounds-chip-start c).In-loop-i
 
 pub loop-i-preserved : goal.loop-i-preserved
 unfolding view_of
@@ -33,7 +25,7 @@ loop-i-preserved c =
           let (before, lost) = c.loop-i.invariant.1 sizes in
           let (next, one) = c.offered-lost.ensures.turns before.sizes in
           let same : c.loop-i.chip.eeprom ≡ eeprom = ap (λ (m : Machine). m.eeprom) before.machine ∙ offers_keep (bytes_from eeprom a.address i) old in
-          let within : a.address + i < length eeprom = omega (arith, sizes.eeprom_count, inside (goal.at.loop-i-preserved c).In-loop-i) in (
+          let within : a.address + i < length eeprom = omega (arith, sizes.eeprom_count, read_inside a.address a.count i c.requires (omega arith)) in (
             becomes (offered_all (bytes_from eeprom a.address (i + 1))) (then before next)
                 (ap (λ (l : List ℕ). offered (get_or l (a.address + i) 0) (offered_all (bytes_from eeprom a.address i) old)) same ∙ offer_next eeprom a.address i within old),
             ap (λ (n : ℕ). n + c.offered-lost.result) lost
@@ -43,19 +35,3 @@ loop-i-preserved c =
       let next = c.offered-lost.new.chip in
       c.offered-lost.ensures.rest ∙ ap (λ (d : Chip). with_numbers next.numbers (with_state next.state (with_slots next.slots d))) c.loop-i.invariant.2,
     )
-
-pub returns : goal.returns
-unfolding view_of
-returns c =
-    let a = c.args in
-    let eeprom = a.chip.now.eeprom in
-    let all : c.loop-i.i ≡ a.count = omega arith in record {
-      turns = λ sizes.
-          let old = view a.chip.now in
-          let (turned, lost) = c.loop-i.invariant.1 sizes in (
-            becomes _ turned (ap (λ (n : ℕ). offered_all (bytes_from eeprom a.address n) old) all),
-            lost ∙ ap (λ (n : ℕ). lost_of (bytes_from eeprom a.address n) old) all,
-          );
-      small = omega (arith, few_read a.address a.count c.requires);
-      rest = c.loop-i.invariant.2;
-    }

@@ -12,8 +12,8 @@ use Rattle.register_write.proofs.WriteLaws.{where_set, where_clear, control_aler
 use Rattle.register_write.proofs.control_written.Goals as goal
 use Rattle.register_write.proofs.control_written.Goals.{then-v-eq1, else-v-eq1, then-v-eq1-2, else-v-eq1-2, then-v-eq1-3, else-v-eq1-3}
 
-pub returns-clause-turns-clause-turns : goal.returns-clause-turns-clause-turns
-returns-clause-turns
+pub returns-clause-turns : goal.returns-clause-turns
+returns-clause-turns c sizes =
     let v = c.args.v in
     let old = c.args.chip.now in
     let bit-0 : bit_set v 0 ≡ eqb (v % 2) 1 = ap (λ (n : ℕ). eqb (n % 2) 1) (div-one v) in

@@ -8,9 +8,9 @@ use Rattle.state.proofs.TurnLaws.{then}
 use Rattle.register_write.proofs.WriteLaws.{judged}
 use Rattle.register_write.proofs.flushed.Goals as goal
 
-pub returns-clause-turns-clause-turns : goal.returns-clause-turns-clause-turns
+pub returns-clause-turns : goal.returns-clause-turns
 unfolding view_of
-returns-clause-turns
+returns-clause-turns c sizes =
     let first = c.emptied.ensures.turns sizes in
     let second = c.cleared.ensures.turns first.sizes in
     let third = set_number (with_lost_sum 0) 2 0 c.cleared.new.self (lit< tt) refl second.sizes refl in

@@ -21,9 +21,9 @@ flag_formed : (b : Bool) → is_flag (bool_byte b) ≡ true
 flag_formed true = refl
 flag_formed false = refl
 
-pub returns-clause-turns-clause-turns : goal.returns-clause-turns-clause-turns
+pub returns-clause-turns : goal.returns-clause-turns
 unfolding view_of
-returns-clause-turns
+returns-clause-turns c sizes =
     let old = c.args.chip.now in
     let running = bool_byte c.args.running in
     let value = c.args.value in

@@ -16,9 +16,9 @@ by_test : {old next : Chip} (t : Bool) → let m = view old in (eqb (timer_reloa
 by_test {old} t is turn =
     let m = view old in becomes timer_started turn (ap (λ (b : Bool). with_timer (cond b (stopped_at 0) (running_at (timer_reload m) (t_pre_scaler m) 0)) m) (sym is))
 
-pub returns-then-prescaler-gt21-clause-turns-clause-turns : goal.returns-then-prescaler-gt21-clause-turns-clause-turns
+pub returns-then-prescaler-gt21-clause-turns : goal.returns-then-prescaler-gt21-clause-turns
 unfolding view_of
-returns-then-prescaler-gt21-clause-turns
+returns-then-prescaler-gt21-clause-turns c sizes =
     let registers = c.args.chip.now.registers in
     let stops : (eqb (at registers 0x1C) 0 || ltb 21 (at registers 0x1A % 32)) ≡ true =
     ⊎_elim
@@ -27,9 +27,9 @@ returns-then-prescaler-gt21-clause-turns
     c.if-prescaler-gt21.either in
     by_test true stops (c.timer_set.ensures.turns sizes)
 
-pub returns-else-prescaler-gt21-clause-turns-clause-turns : goal.returns-else-prescaler-gt21-clause-turns-clause-turns
+pub returns-else-prescaler-gt21-clause-turns : goal.returns-else-prescaler-gt21-clause-turns
 unfolding view_of
-returns-else-prescaler-gt21-clause-turns
+returns-else-prescaler-gt21-clause-turns c sizes =
     let registers = c.args.chip.now.registers in
     let runs : (eqb (at registers 0x1C) 0 || ltb 21 (at registers 0x1A % 32)) ≡ false =
     ap (λ (b : Bool). b || ltb 21 (at registers 0x1A % 32)) (ne_eqb _ _ c.if-prescaler-gt21.false.0) ∙ le-ltb _ _ c.if-prescaler-gt21.false.1 in

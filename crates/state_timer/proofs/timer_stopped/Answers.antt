@@ -5,6 +5,6 @@ use Rattle.state.specs.View.{view_of}
 use Rattle.state.proofs.TurnLaws.{becomes}
 use Rattle.state_timer.proofs.timer_stopped.Goals as goal
 
-pub returns-clause-turns-clause-turns : goal.returns-clause-turns-clause-turns
+pub returns-clause-turns : goal.returns-clause-turns
 unfolding view_of
-returns-clause-turns becomes timer_stopped (c.timer_set.ensures.turns sizes) refl
+returns-clause-turns c sizes = becomes timer_stopped (c.timer_set.ensures.turns sizes) refl

@@ -1,30 +1,20 @@
 -- `event_clock_advance::programming::store_batch` meets its contract: the bytes before i are stored. Assumes nothing.
-use borrow.Author.Rules.{rules}
 use mathlib.Core.List.{List}
 use mathlib.Core.Path.{◌≡◌, refl, sym, ap, ◌∙◌}
 use Prim.Native.Nat.{ℕ, ◌+◌, ◌%◌}
 use native.Mathlib.Numerals.{add-one}
-use native.Mathlib.Omega.{arith}
 use lib.ListN.{get_or, set}
 use Rattle.event_clock_advance.specs.Clock.{stored_wrapped}
 use Rattle.event_clock_advance.proofs.programming.store_batch.Goals as goal
 
 pub loop-i-init : goal.loop-i-init
 unfolding stored_wrapped
-loop-i-init c = (search rules, refl)
+loop-i-init c = refl
 
 pub loop-i-preserved : goal.loop-i-preserved
 unfolding stored_wrapped
 loop-i-preserved c =
     let a = c.args in
-    let i = c.loop-i.i in (
-      search rules,
-      ap (λ (l : List ℕ). set l ((a.address + i) % 512) (get_or a.latch.now (i % 16) 0)) c.loop-i.invariant.1
-          ∙ ap (stored_wrapped a.eeprom.now a.latch.now a.address) (sym (add-one i)),
-    )
-
-pub returns : goal.returns
-returns c =
-    let a = c.args in
-    let all : c.loop-i.i ≡ a.count = omega arith in
-    c.loop-i.invariant.1 ∙ ap (stored_wrapped a.eeprom.now a.latch.now a.address) all
+    let i = c.loop-i.i in
+    ap (λ (l : List ℕ). set l ((a.address + i) % 512) (get_or a.latch.now (i % 16) 0)) c.loop-i.invariant
+    ∙ ap (stored_wrapped a.eeprom.now a.latch.now a.address) (sym (add-one i))

@@ -7,6 +7,7 @@ use command_write_e2::{batch_start, bytes_latched};
 use state::{Chip, LATCHED, LEFT, NEXT, STAGE};
 
 // Stores the first latched bytes from an address on. An index is kept inside its array by a remainder.
+#[tactic(auto, unfolding(crate::specs::Clock::stored_wrapped))]
 fn store_batch(eeprom: &mut [u8; 512], latch: &[u8; 16], address: u16, count: u8)
     ensures { let stored = stored_wrapped eeprom.old latch.now address count in
         eeprom.new ≡ stored }

@@ -1,7 +1,7 @@
 -- `event_clock_advance::clock::clocked_reaching` meets its contract: each turn of the loop takes the clocks up to the end of a programming. Where a mode takes hold
 -- there, the clocks left over do nothing.
 -- Assumes nothing.
-use Rattle.std.proofs.Common.{◌≡◌, ℕ, ◌+◌, ◌-◌, ◌<◌, ◌≤◌, true, false, ◌||◌, take, refl, sym, ap, ◌∙◌, arith}
+use Rattle.std.proofs.Common.{◌≡◌, ℕ, ◌+◌, ◌-◌, ◌≤◌, true, false, ◌||◌, take, refl, sym, ap, ◌∙◌, arith}
 use Rattle.machine.specs.State.{Machine, Modes}
 use Rattle.machine.specs.Commands.{programs}
 use Rattle.machine.specs.Power.{has_hold, modes_clocked, stands_still}
@@ -14,7 +14,7 @@ use Rattle.state.specs.declared.Chip.{Chip}
 use Rattle.state.proofs.TurnLaws.{stays, then, becomes}
 use Rattle.event_clock_advance.proofs.BatchLaws.{is_idle, left_turns}
 use Rattle.event_clock_advance.proofs.ClockLaws.{piece_rests, piece_ends, piece_goes_on, modes_kept, ends_here, goes_past, still_left}
-use Rattle.event_clock_advance.proofs.Reaching.{Runs, entered, Turn, runs_here, further, all, is_run}
+use Rattle.event_clock_advance.proofs.Reaching.{Runs, entered, runs_here, further, all, is_run}
 use Rattle.event_clock_advance.proofs.clock.clocked_reaching.Goals as goal
 use Rattle.event_clock_advance.proofs.clock.clocked_reaching.Goals.{After-stands_still}
 

@@ -51,12 +51,13 @@ fn key_emptied(chip: &mut Chip)
 fn key_judged(chip: &mut Chip, bytes: [u8; 12])
     ensures { Turns (key_judged bytes) chip.old chip.new }
 {
-    if let Some(made) = key_of(bytes) {
-        chip.key = made;
-        chip.state[KEY_LOADED] = 1;
-        return;
+    match key_of(bytes) {
+        Some(made) => {
+            chip.key = made;
+            chip.state[KEY_LOADED] = 1;
+        }
+        None => key_emptied(chip),
     }
-    key_emptied(chip);
 }
 
 // The twelve bytes of the EEPROM from an address on are judged; an address above 1F4h gives KeyErr and no key.

@@ -15,9 +15,7 @@ use state_fifo::argument;
 pub fn address(chip: &Chip) -> u16
     ensures { Reads (λ m. address_of (argument 0 m) (argument 1 m)) chip.now result }
 {
-    let low = argument(chip, 0) as u16;
-    let high = argument(chip, 1) as u16;
-    (low + 256 * high) % 0x200
+    u16::from_le_bytes([argument(chip, 0), argument(chip, 1)]) % 0x200
 }
 
 // Fills a slice with held bytes, the first from a position on. A position is added to with eight-bit wrap, as the FIFO's are.

@@ -9,7 +9,10 @@ ghost use Rattle.machine.specs.Commands.{checksum_started, command_started, comm
 ghost use Rattle.state.specs.Turns.{Turns};
 ghost use Rattle.command_begin.specs.Begins.{begins, begun, prepared, BeginsIn, IsUnknown};
 
-use state::{CRC_MODE, CRC_REGISTER, Chip, LATCHED, LEFT, STAGE};
+use state::{
+    CALC_CRC, CRC_MODE, CRC_REGISTER, Chip, IDLE, LATCHED, LEFT, LOAD_CONFIG, LOAD_KEY,
+    LOAD_KEY_E2, READ_E2, RECEIVE, STAGE, TRANSCEIVE_SENDING, TRANSMIT, WRITE_E2,
+};
 
 // CalcCRC starts: it reads its mode and presets. The mode is stored only where it is another: it lies in a word that is judged at every host access, and a
 // store delays the load of that word.
@@ -25,15 +28,15 @@ pub fn checksum_started(chip: &mut Chip)
     }
 }
 
-// The stage in which a code's command begins. It is none where the code is unknown.
+// The stage in which a code's command begins: the code, with bit 6 of one that sends and bit 7 of one that receives. None of an unknown code.
 fn first_stage(code: u8) -> Option<u8>
     ensures { MatchOption result (IsUnknown code) (BeginsIn code) }
 {
     match code {
-        0x00 | 0x01 | 0x03 | 0x07 | 0x0B | 0x12 | 0x19 => Some(code),
-        0x16 => Some(0x96),
-        0x1A => Some(0x5A),
-        0x1E => Some(0x5E),
+        IDLE | WRITE_E2 | READ_E2 | LOAD_CONFIG | LOAD_KEY_E2 | CALC_CRC | LOAD_KEY => Some(code),
+        0x16 => Some(RECEIVE),
+        0x1A => Some(TRANSMIT),
+        0x1E => Some(TRANSCEIVE_SENDING),
         _ => None,
     }
 }
@@ -43,8 +46,8 @@ fn prepared(chip: &mut Chip, code: u8)
     ensures { Turns (prepared code) chip.old chip.new }
 {
     match code {
-        0x0B | 0x19 => chip.cleared(0x40),
-        0x12 => checksum_started(chip),
+        LOAD_KEY_E2 | LOAD_KEY => chip.cleared(0x40),
+        CALC_CRC => checksum_started(chip),
         _ => {}
     }
 }

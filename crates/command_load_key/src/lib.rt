@@ -53,12 +53,13 @@ fn key_judged(chip: &mut Chip, bytes: [u8; 12])
     ensures turns { Turns (key_judged bytes) chip.old chip.new }
     ensures rest { chip.new ≡ with_state chip.new.state (with_key chip.new.key chip.old) }
 {
-    if let Some(made) = key_of(bytes) {
-        chip.key = made;
-        chip.state[KEY_LOADED] = 1;
-        return;
+    match key_of(bytes) {
+        Some(made) => {
+            chip.key = made;
+            chip.state[KEY_LOADED] = 1;
+        }
+        None => key_emptied(chip),
     }
-    key_emptied(chip);
 }
 
 // The twelve bytes of the EEPROM from an address on are judged; an address above 1F4h gives KeyErr and no key.

@@ -7,7 +7,7 @@ ghost use Rattle.std.specs.Prelude.{◌%◌, ◌≤◌, ◌++◌, min, drop, len
 ghost use Rattle.machine.specs.State.{addressing, ready};
 ghost use Rattle.machine.specs.Memory.{room_in_block};
 ghost use Rattle.machine.specs.Commands.{write_stepped};
-ghost use Rattle.state.specs.View.{at, batch_start as view_batch_start, held_from, view, with_clocks, with_latch, with_numbers, with_state};
+ghost use Rattle.state.specs.View.{at, batch_start, held_from, view, with_clocks, with_latch, with_numbers, with_state};
 ghost use Rattle.state.specs.Turns.{Sizes, Turns};
 ghost use Rattle.command_write_e2.specs.Next.{next_after};
 
@@ -75,7 +75,7 @@ pub fn bytes_latched(chip: &mut Chip)
 
 // Where the latched bytes go: they end where the next byte goes.
 pub fn batch_start(next: u16, latched: u8) -> u16
-    ensures { result ≡ view_batch_start next latched }
+    ensures { result ≡ batch_start next latched }
 {
     ((next as u32 + 0x200 - latched as u32) % 0x200) as u16
 }

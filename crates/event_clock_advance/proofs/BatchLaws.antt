@@ -1,6 +1,6 @@
 -- Laws of a programming in the arrays: the bytes that it stores, its end, and its count of clocks.
 -- Assumes nothing.
-use Prim.Native.Nat.{ℕ, zero, suc, ◌+◌, ◌-◌, ◌%◌, ◌<◌, ◌≤◌}
+use Prim.Native.Nat.{ℕ, zero, suc, ◌+◌, ◌%◌, ◌<◌, ◌≤◌}
 use native.Mathlib.Omega.{arith}
 use mathlib.Core.Path.{◌≡◌, refl, sym, ap, ◌∙◌}
 use mathlib.Core.Bool.{Bool, true, false, true≢false, ◌&&◌, ◌||◌}
@@ -9,14 +9,14 @@ use lib.Dec.{ltb, leb, eqb}
 use lib.ListN.{length, get_or, set, take, length-set}
 use lib.Seq.{take-suc, length-take-le}
 use borrow.Author.Tests.{eq-eqb, ne_eqb, lt-ltb, leb-true}
-use Rattle.machine.specs.State.{Machine, Command, WriteE2, ready, programming, while_programming, with_command, with_eeprom}
+use Rattle.machine.specs.State.{Machine, Command, WriteE2, ready, programming, while_programming, with_command}
+use Rattle.machine.specs.State as machine
 use Rattle.machine.specs.Memory.{stored_from}
 use Rattle.machine.specs.Commands.{programs, raised_tx, write_stepped}
 use Rattle.machine.specs.Events.{batch_stored, programmed}
 use Rattle.machine.proofs.WellFormed.Parts.{both, each}
 use Rattle.machine.proofs.Settling.{settled_writes}
-use Rattle.state.specs.View.{Core, at, batch_start, command_of, core, core_by, view, view_of, with_clocks}
-use Rattle.state.specs.Lent.{clocks_numbers_state_slots_latch_eeprom}
+use Rattle.state.specs.View.{Core, at, batch_start, command_of, core, core_by, view, view_of, with_clocks, with_state, with_eeprom}
 use Rattle.state.specs.Formed.{listed, writes, batch_fits, agree, fields_formed}
 use Rattle.state.specs.Turns.{Sizes, Turned, Turns}
 use Rattle.state.specs.declared.Chip.{Chip}
@@ -87,23 +87,26 @@ module _ (a : ℕ) (bs : List ℕ) (m : Machine) where
   end_latches some = rw (ne_eqb (length m.held) 0 some) (settled_writes (batch_stored a bs m) ((a + length bs) % 0x200) refl)
 
 -- Its bytes are stored: no clocks are left, none is latched, and WriteE2 has its address.
-pub batch_turns : (clocks numbers l slots latch eeprom stored_bytes_lem : List ℕ) → let next = at numbers 1 in let latched = at l 10 in
-    batch_fits next latched ≡ true → next < 0x200 → stored_bytes_lem ≡ stored_from eeprom (batch_start next latched) (take latched latch) → length stored_bytes_lem ≡ 512 →
-    Turns (batch_stored (batch_start next latched) (take latched latch)) (clocks_numbers_state_slots_latch_eeprom clocks numbers l slots latch eeprom)
-    (clocks_numbers_state_slots_latch_eeprom (set clocks 1 0) numbers (set (set l 10 0) 12 0x41) slots latch stored_bytes_lem)
-unfolding view_of
-batch_turns clocks numbers l slots latch eeprom after fits near is size c sizes =
-    let next = at numbers 1 in
-    let latched = at l 10 in
-    let old = clocks_numbers_state_slots_latch_eeprom clocks numbers l slots latch eeprom c in
-    let written = set (set l 10 0) 12 0x41 in
-    stored (clocks_numbers_state_slots_latch_eeprom (set clocks 1 0) numbers written slots latch after c)
-    (at_set clocks 1 0 (omega (arith, sizes.clock_count))) refl (at_set_two l 10 0 12 0x41 (omega (arith, sizes.state_count)) (omega (arith, sizes.state_count)))
-    (batch_stored (batch_start next latched) (take latched latch)) old
-    (sized_clocks (sized_state (sized_eeprom sizes after size) written (length-set (set l 10 0) 12 0x41 ∙ length-set l 10 0 ∙ sizes.state_count)) (set clocks 1 0) (length-set clocks 1 0 ∙ sizes.clock_count))
-    (ap (λ (n : ℕ). with_command (WriteE2 (ready n)) (with_eeprom after (view old))) (batch_next next latched fits near latch sizes.latch_count)
-    ∙ ap (λ (es : List ℕ). with_command (WriteE2 (ready ((batch_start next latched + length (take latched latch)) % 0x200))) (with_eeprom es (view old))) is)
-    (λ formed. both (next_near old formed) (others_agree old formed))
+module _ (old : Chip) where
+  abbrev pub from : ℕ
+  from = batch_start (core old).next (core old).latched
+
+  abbrev pub bytes : List ℕ
+  bytes = take (core old).latched old.latch
+
+  pub batch_turns : (eeprom : List ℕ) → batch_fits (core old).next (core old).latched ≡ true → (core old).next < 0x200 → eeprom ≡ stored_from old.eeprom from bytes → length eeprom ≡ 512 →
+      Turns (batch_stored from bytes) old (with_clocks (set old.clocks 1 0) (with_state (set (set old.state 10 0) 12 0x41) (with_eeprom eeprom old)))
+  unfolding view_of
+  batch_turns eeprom fits near is size sizes =
+      let clocks = set old.clocks 1 0 in
+      let written = set (set old.state 10 0) 12 0x41 in
+      stored (with_clocks clocks (with_state written (with_eeprom eeprom old)))
+      (at_set old.clocks 1 0 (omega (arith, sizes.clock_count))) refl (at_set_two old.state 10 0 12 0x41 (omega (arith, sizes.state_count)) (omega (arith, sizes.state_count)))
+      (batch_stored from bytes) old
+      (sized_clocks (sized_state (sized_eeprom sizes eeprom size) written (length-set (set old.state 10 0) 12 0x41 ∙ length-set old.state 10 0 ∙ sizes.state_count)) clocks (length-set old.clocks 1 0 ∙ sizes.clock_count))
+      (ap (λ (n : ℕ). with_command (WriteE2 (ready n)) (machine.with_eeprom eeprom (view old))) (batch_next (core old).next (core old).latched fits near old.latch sizes.latch_count)
+      ∙ ap (λ (es : List ℕ). with_command (WriteE2 (ready ((from + length bytes) % 0x200))) (machine.with_eeprom es (view old))) is)
+      (λ formed. both (next_near old formed) (others_agree old formed))
 
 -- Clocks are left exactly where WriteE2 programs a batch that fits.
 pub programs_here : (c : Chip) → fields_formed c ≡ true → ((core c).left ≡ 0 → ⊥) → (writes (core c).stage ≡ true) × (batch_fits (core c).next (core c).latched ≡ true)

@@ -28,17 +28,18 @@ entered sizes formed well without = record { sizes = sizes; fields = formed; wel
 pub record Turn (by rest left : ℕ) (old x : Chip) : Type 0 where
   pub within : rest ≤ by
   pub known : left ≡ (core x).left
-  pub so_far : Turned (clocks (by - rest)) old x
-  pub runs : stands_still (view x) ≡ false
+  pub so_far : Runs old → Turned (clocks (by - rest)) old x
+  pub runs : Runs old → stands_still (view x) ≡ false
 
-module _ {by rest left : ℕ} {old x : Chip} (entry : Runs old) (turn : Turn by rest left old x) where
+module _ {by rest left : ℕ} {old x : Chip} (turn : Turn by rest left old x) (entry : Runs old) where
   pub runs_here : Runs x
   runs_here =
+      let so_far = turn.so_far entry in
       record {
-        sizes = turn.so_far.sizes;
-        fields = turn.so_far.fields entry.fields;
-        well = subst Formed (sym turn.so_far.machine) (clocks_formed (by - rest) (view old) entry.well);
-        without = turn.runs;
+        sizes = so_far.sizes;
+        fields = so_far.fields entry.fields;
+        well = subst Formed (sym so_far.machine) (clocks_formed (by - rest) (view old) entry.well);
+        without = turn.runs entry;
       }
 
   -- so many more clocks
@@ -46,7 +47,7 @@ module _ {by rest left : ℕ} {old x : Chip} (entry : Runs old) (turn : Turn by 
   further n less turned =
       let m = view old in
       let sum : by - rest + n ≡ by - (rest - n) = omega (arith, turn.within) in
-      becomes (clocks (by - (rest - n))) (then turn.so_far turned) (sym (in_parts (by - rest) n m) ∙ ap (λ (k : ℕ). clocks k m) sum)
+      becomes (clocks (by - (rest - n))) (then (turn.so_far entry) turned) (sym (in_parts (by - rest) n m) ∙ ap (λ (k : ℕ). clocks k m) sum)
 
   -- all clocks but none are had
   pub all : {z : Chip} → Turned (clocks (by - (rest - rest))) old z → Turned (clocks by) old z

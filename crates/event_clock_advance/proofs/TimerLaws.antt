@@ -4,7 +4,6 @@ use Prim.Native.Nat.{ℕ, ◌+◌, ◌-◌, ◌/◌, ◌%◌, ◌^◌, ◌<◌, 
 use native.Mathlib.Omega.{arith}
 use mathlib.Core.Path.{◌≡◌, refl, sym, ap, ◌∙◌}
 use mathlib.Core.Bool.{Bool, true, false, cond, not, ◌&&◌}
-use mathlib.Core.List.{List}
 use lib.ListN.{set, length-set}
 use lib.Dec.{eqb, ltb}
 use borrow.Author.Tests.{lt-ltb, le-ltb}
@@ -13,9 +12,9 @@ use Rattle.machine.specs.Timer.{t_auto_restart, timer_reload, stopped_at, runnin
 use Rattle.machine.specs.WellFormed.{timer_formed}
 use Rattle.machine.specs.ManyClocks.{after_steps, timer_after}
 use Rattle.machine.proofs.WellFormed.Timer.{running}
-use Rattle.state.specs.View.{view_of}
-use Rattle.state.specs.Lent.{clocks_state}
+use Rattle.state.specs.View.{view_of, with_clocks, with_state}
 use Rattle.state.specs.Turns.{Turns}
+use Rattle.state.specs.declared.Chip.{Chip}
 use Rattle.state.proofs.StoreLaws.{at_set, stored, keeps_byte}
 use Rattle.state.proofs.TurnLaws.{sized_clocks, sized_state}
 
@@ -68,11 +67,12 @@ module _ (m : Machine) (n steps phase : ℕ) (runs : m.timer.running ≡ true) (
   after_stops all off = sym (ap past off) ∙ by_value false (le-ltb steps m.timer.value all)
 
 -- A store to the phase and the value.
-pub goes_on_lem : (phases l : List ℕ) (value phase : ℕ) → Turns (goes_on value phase) (clocks_state phases l) (clocks_state (set phases 0 phase) (set l 15 value))
+pub goes_on_lem : (old : Chip) (value phase : ℕ) → Turns (goes_on value phase) old (with_clocks (set old.clocks 0 phase) (with_state (set old.state 15 value) old))
 unfolding view_of
-goes_on_lem phases l value phase c sizes =
-    let old = clocks_state phases l c in
-    stored (clocks_state (set phases 0 phase) (set l 15 value) c) (at_set phases 0 phase (omega (arith, sizes.clock_count))) refl (at_set l 15 value (omega (arith, sizes.state_count)))
+goes_on_lem old value phase sizes =
+    let clocks = set old.clocks 0 phase in
+    let l = set old.state 15 value in
+    stored (with_clocks clocks (with_state l old)) (at_set old.clocks 0 phase (omega (arith, sizes.clock_count))) refl (at_set old.state 15 value (omega (arith, sizes.state_count)))
     (goes_on value phase) old
-    (sized_clocks (sized_state sizes (set l 15 value) (length-set l 15 value ∙ sizes.state_count)) (set phases 0 phase) (length-set phases 0 phase ∙ sizes.clock_count))
+    (sized_clocks (sized_state sizes l (length-set old.state 15 value ∙ sizes.state_count)) clocks (length-set old.clocks 0 phase ∙ sizes.clock_count))
     refl (keeps_byte old 15 value refl (λ bytes. refl))

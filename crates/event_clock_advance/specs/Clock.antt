@@ -5,15 +5,10 @@ use Rattle.machine.specs.State.{Machine, WriteE2, programming, while_programming
 use Rattle.machine.specs.Power.{modes_clocked, stands_still}
 use Rattle.machine.specs.WellFormedness.{Formed}
 use Rattle.machine.specs.Events.{programmed, clocks}
-use Rattle.state.specs.View.{view, with_clocks, with_numbers, with_state, with_registers, with_slots, with_latch, with_eeprom}
+use Rattle.state.specs.View.{view}
 use Rattle.state.specs.Formed.{fields_formed}
 use Rattle.state.specs.Turns.{Sizes, Turned}
 use Rattle.state.specs.declared.Chip.{Chip}
-
--- All arrays but the key.
-abbrev pub clocked_in : List ℕ → List ℕ → List ℕ → List ℕ → List ℕ → List ℕ → List ℕ → Chip → Chip
-clocked_in clocks numbers state registers slots latch eeprom c =
-    with_clocks clocks (with_numbers numbers (with_state state (with_registers registers (with_slots slots (with_latch latch (with_eeprom eeprom c))))))
 
 -- So many bytes of the latch stored from an address on, each place by its remainder: 512 of the EEPROM's, 16 of the latch's.
 unfoldable pub stored_wrapped : List ℕ → List ℕ → ℕ → ℕ → List ℕ
@@ -27,21 +22,22 @@ programming_ended m = while_programming (λ a bs left. programmed a bs m) m m.co
 abbrev pub programming_left : ℕ → Machine → Machine
 programming_left n m = while_programming (λ a bs left. with_command (WriteE2 (programming a bs n)) m) m m.command
 
--- The machine turns by a function where the chip's own fields agree, and where the chip is well formed.
-abbrev pub TurnsAgreeing : (Machine → Machine) → (Chip → Chip) → (Chip → Chip) → Type 0
-TurnsAgreeing f before after = (c : Chip) → Sizes (before c) → fields_formed (before c) ≡ true → Turned f (before c) (after c)
+-- The machine turns by a function where the chip's own fields agree; where no power mode has hold besides; where the chip is well formed; and where both are so.
+abbrev pub TurnsAgreeing : (Machine → Machine) → Chip → Chip → Type 0
+TurnsAgreeing f before after = Sizes before → fields_formed before ≡ true → Turned f before after
 
-abbrev pub TurnsFormed : (Machine → Machine) → (Chip → Chip) → (Chip → Chip) → Type 0
-TurnsFormed f before after = (c : Chip) → Sizes (before c) → fields_formed (before c) ≡ true → Formed (view (before c)) → Turned f (before c) (after c)
+abbrev pub TurnsRunning : (Machine → Machine) → Chip → Chip → Type 0
+TurnsRunning f before after = Sizes before → fields_formed before ≡ true → stands_still (view before) ≡ false → Turned f before after
+
+abbrev pub TurnsFormed : (Machine → Machine) → Chip → Chip → Type 0
+TurnsFormed f before after = Sizes before → fields_formed before ≡ true → Formed (view before) → Turned f before after
+
+abbrev pub TurnsReaching : (Machine → Machine) → Chip → Chip → Type 0
+TurnsReaching f before after = Sizes before → fields_formed before ≡ true → Formed (view before) → stands_still (view before) ≡ false → Turned f before after
 
 -- A function that reads a chip whose own fields agree.
-abbrev pub ReadsAgreeing : {A : Type 0} → (Machine → A) → (Chip → Chip) → A → Type 0
-ReadsAgreeing f lent r = (c : Chip) → fields_formed (lent c) ≡ true → r ≡ f (view (lent c))
-
--- The machine turns so where no power mode has hold.
-abbrev pub TurnsReaching : (Machine → Machine) → (Chip → Chip) → (Chip → Chip) → Type 0
-TurnsReaching f before after =
-    (c : Chip) → Sizes (before c) → fields_formed (before c) ≡ true → Formed (view (before c)) → stands_still (view (before c)) ≡ false → Turned f (before c) (after c)
+abbrev pub ReadsAgreeing : {A : Type 0} → (Machine → A) → Chip → A → Type 0
+ReadsAgreeing f c r = fields_formed c ≡ true → r ≡ f (view c)
 
 -- A mode that has waited takes hold behind the end of a programming.
 abbrev pub hold_taken : Machine → Machine
@@ -63,3 +59,7 @@ pub record StoodBy (by rest : ℕ) (before after : Chip) : Type 0 where
   pub within : rest ≤ by
   pub stood : Turned (clocks (by - rest)) before after
   pub reaches : (rest ≡ 0 → ⊥) → stands_still (view after) ≡ false
+
+-- Of a chip that is well formed.
+abbrev pub Stands : ℕ → Chip → Chip → ℕ → Type 0
+Stands by before after rest = Sizes before → fields_formed before ≡ true → Formed (view before) → StoodBy by rest before after

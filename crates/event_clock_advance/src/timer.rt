@@ -1,10 +1,9 @@
 // The timer by any number of clocks (manual 5.2).
 ghost use Rattle.std.specs.Prelude.{◌+◌, ◌-◌, ◌/◌, ◌%◌, ◌^◌, ◌<◌, ◌≤◌, ◌≡◌, leb};
 ghost use Rattle.machine.specs.ManyClocks.{timer_after};
-ghost use Rattle.state.specs.Lent.{clocks_state_registers};
 ghost use Rattle.event_clock_advance.specs.Clock.{TurnsFormed};
 
-use state::{PHASE, PRESCALER, RUNNING, VALUE, requested};
+use state::{Chip, PHASE, PRESCALER, RUNNING, VALUE};
 use state_timer::{period, restarts, timer_stopped};
 
 // How many steps so many clocks make: each 2^prescaler of them, with those of the step that has begun.
@@ -45,32 +44,30 @@ fn gone_round(value: u8, reload: u8, steps: u64) -> u8
 }
 
 // So many clocks: the value falls by the steps that they make. A timer that comes to its end raises TimerIRq, and stops, or goes on with TAutoRestart.
-pub fn timer_clocked(clocks: &mut [u32; 2], state: &mut [u8; 24], registers: &[u8; 32], by: u32)
-    ensures { let before = clocks_state_registers clocks.old state.old registers.now in
-        let after = clocks_state_registers clocks.new state.new registers.now in
-        TurnsFormed (timer_after by) before after }
+pub fn timer_clocked(chip: &mut Chip, by: u32)
+    ensures { TurnsFormed (timer_after by) chip.old chip.new }
 {
-    if state[RUNNING] != 1 {
+    if chip.state[RUNNING] != 1 {
         return;
     }
-    let phase = clocks[PHASE];
-    let prescaler = state[PRESCALER];
-    let value = state[VALUE];
+    let phase = chip.clocks[PHASE];
+    let prescaler = chip.state[PRESCALER];
+    let value = chip.state[VALUE];
     let steps = steps_made(phase, by, prescaler);
     let next = phase_after(phase, by, prescaler);
     if !comes_to_end(value, steps) {
-        clocks[PHASE] = next;
-        state[VALUE] = fallen(value, steps);
+        chip.clocks[PHASE] = next;
+        chip.state[VALUE] = fallen(value, steps);
         return;
     }
-    let reload = registers[0x2C - 0x10];
-    if restarts(registers[0x2A - 0x10], reload) {
-        clocks[PHASE] = next;
-        state[VALUE] = gone_round(value, reload, steps);
-        requested(state, 0x20);
+    let reload = chip.registers[0x2C - 0x10];
+    if restarts(chip.registers[0x2A - 0x10], reload) {
+        chip.clocks[PHASE] = next;
+        chip.state[VALUE] = gone_round(value, reload, steps);
+        chip.requested(0x20);
         return;
     }
-    timer_stopped(clocks, state);
-    state[VALUE] = 0;
-    requested(state, 0x20);
+    timer_stopped(chip);
+    chip.state[VALUE] = 0;
+    chip.requested(0x20);
 }

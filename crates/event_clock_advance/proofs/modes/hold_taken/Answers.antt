@@ -1,13 +1,10 @@
 -- `event_clock_advance::modes::hold_taken` meets its contract: both modes are off where Control is 0, and else each takes hold by its bit. Assumes nothing.
-use Rattle.state.specs.Lent.{numbers_state}
 use Rattle.event_clock_advance.proofs.StandLaws.{hold_stored, none_hold}
 use Rattle.event_clock_advance.proofs.modes.hold_taken.Goals as goal
 
 pub returns-then-control-eq0 : goal.returns-then-control-eq0
-returns-then-control-eq0 c chip sizes formed runs = let a = c.args in none_hold (numbers_state a.numbers.now a.state.now chip) sizes c.if-control-eq0.true
+returns-then-control-eq0 c sizes formed runs = none_hold c.args.chip.now sizes c.if-control-eq0.true
 
 pub returns : goal.returns
-returns c chip sizes formed runs =
-    let a = c.args in
-    hold_stored (numbers_state a.numbers.now a.state.now chip) formed runs sizes c.number_held.result c.number_held-2.result
-    c.number_held.ensures c.number_held-2.ensures
+returns c sizes formed runs =
+    hold_stored c.args.chip.now formed runs sizes c.number_held.result c.number_held-2.result c.number_held.ensures c.number_held-2.ensures

@@ -1,6 +1,7 @@
 // Any number of clocks (manual 9.4), by what happens in them: leavings of power modes end, the timer goes on by as many steps as they make, and at most six
 // programmings end.
 ghost use Rattle.std.specs.Prelude.{not, ◌&&◌, ◌≡◌, eqb, leb};
+ghost use Rattle.state.specs.View.{with_clocks, with_eeprom, with_latch, with_numbers, with_state};
 ghost use Rattle.machine.specs.Events.{clocks};
 ghost use Rattle.event_clock_advance.specs.Clock.{TurnsFormed, TurnsReaching};
 
@@ -19,7 +20,8 @@ fn ends_within(left: u32, rest: u32) -> bool
 // So many clocks, where no power mode has hold. They are split at the end of each programming; where bytes wait the next one begins there. Where a mode has waited
 // for the end it takes hold, and no further clock does anything.
 fn clocked_reaching(chip: &mut Chip, by: u32)
-    ensures { TurnsReaching (clocks by) chip.old chip.new }
+    ensures turns { TurnsReaching (clocks by) chip.old chip.new }
+    ensures rest { chip.new ≡ with_clocks chip.new.clocks (with_numbers chip.new.numbers (with_state chip.new.state (with_latch chip.new.latch (with_eeprom chip.new.eeprom chip.old)))) }
 {
     let mut rest = by;
     let mut left = chip.clocks[LEFT];
@@ -42,7 +44,8 @@ fn clocked_reaching(chip: &mut Chip, by: u32)
 
 // So many clocks. Those that begin while a power mode has hold reach its leaving alone; the others are split at the ends of programmings.
 pub fn clocked_times(chip: &mut Chip, by: u32)
-    ensures { TurnsFormed (clocks by) chip.old chip.new }
+    ensures turns { TurnsFormed (clocks by) chip.old chip.new }
+    ensures rest { chip.new ≡ with_clocks chip.new.clocks (with_numbers chip.new.numbers (with_state chip.new.state (with_latch chip.new.latch (with_eeprom chip.new.eeprom chip.old)))) }
 {
     let rest = stood(chip, by);
     if rest == 0 {

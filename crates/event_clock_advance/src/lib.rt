@@ -2,8 +2,9 @@
 
 #![tactic(auto)]
 
-ghost use Rattle.std.specs.Prelude.{[]};
+ghost use Rattle.std.specs.Prelude.{◌≡◌, []};
 ghost use Rattle.machine.specs.Refusals.{advance};
+ghost use Rattle.state.specs.View.{with_clocks, with_eeprom, with_latch, with_numbers, with_state};
 ghost use Rattle.state.specs.Answers.{PromisesAnswer, done_answer};
 
 mod clock;
@@ -19,7 +20,8 @@ use state_formed::well_formed;
 // An advance by any number of clocks: they reach the timer and the programming of WriteE2, but where a power mode has hold, and the alerts are judged over them
 // all.
 pub fn advance(chip: &mut Chip, by: u32) -> Result<(), Refusal>
-    ensures { PromisesAnswer done_answer chip.old (advance by) chip.new result [] }
+    ensures turns { PromisesAnswer done_answer chip.old (advance by) chip.new result [] }
+    ensures rest { chip.new ≡ with_clocks chip.new.clocks (with_numbers chip.new.numbers (with_state chip.new.state (with_latch chip.new.latch (with_eeprom chip.new.eeprom chip.old)))) }
 {
     if !well_formed(chip) {
         return Err(Refusal::Malformed);

@@ -1,5 +1,6 @@
 // Clocks while a power mode has hold, and a mode that takes hold at the end of a programming (manual 9.10).
 ghost use Rattle.std.specs.Prelude.{◌≡◌, cond};
+ghost use Rattle.state.specs.View.{with_numbers, with_state};
 ghost use Rattle.machine.specs.Power.{stands_still};
 ghost use Rattle.event_clock_advance.specs.Clock.{ReadsAgreeing, TurnsRunning, hold_taken, standing, left_within, number_after, Stands};
 
@@ -51,7 +52,8 @@ fn number_after(number: u16, by: u32) -> u16
 
 // So many clocks, as far as they begin while a mode has hold: both leavings go on by them. Answers how many are left, in which no mode has hold.
 fn modes_clocked(chip: &mut Chip, by: u32) -> u32
-    ensures { Stands by chip.old chip.new result }
+    ensures turns { Stands by chip.old chip.new result }
+    ensures rest { chip.new ≡ with_numbers chip.new.numbers (with_state chip.new.state chip.old) }
 {
     let control = chip.state[CONTROL];
     let standby = chip.numbers[STAND_BY];
@@ -67,7 +69,8 @@ fn modes_clocked(chip: &mut Chip, by: u32) -> u32
 
 // The same, with the test whether a mode has hold at all.
 pub fn stood(chip: &mut Chip, by: u32) -> u32
-    ensures { Stands by chip.old chip.new result }
+    ensures turns { Stands by chip.old chip.new result }
+    ensures rest { chip.new ≡ with_numbers chip.new.numbers (with_state chip.new.state chip.old) }
 {
     if !stands_still(chip) {
         return by;
@@ -84,7 +87,8 @@ fn number_held(bit: bool) -> u16
 
 // A programming has ended, and no mode has hold: each that has waited takes it.
 pub fn hold_taken(chip: &mut Chip)
-    ensures { TurnsRunning hold_taken chip.old chip.new }
+    ensures turns { TurnsRunning hold_taken chip.old chip.new }
+    ensures rest { chip.new ≡ with_numbers chip.new.numbers chip.old }
 {
     let control = chip.state[CONTROL];
     if control == 0 {

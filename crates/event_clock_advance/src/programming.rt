@@ -1,6 +1,6 @@
 // The end of a programming that WriteE2 has started (manual 6.3).
 ghost use Rattle.std.specs.Prelude.{◌≡◌};
-ghost use Rattle.state.specs.View.{at};
+ghost use Rattle.state.specs.View.{at, with_clocks, with_eeprom, with_latch, with_numbers, with_state};
 ghost use Rattle.event_clock_advance.specs.Clock.{stored_wrapped, programming_ended, TurnsAgreeing};
 
 use command_write_e2::{batch_start, bytes_latched};
@@ -22,7 +22,8 @@ fn store_batch(eeprom: &mut [u8; 512], latch: &[u8; 16], address: u16, count: u8
 
 // A programming ends: its bytes are stored, and the next byte goes behind them. TxIRq is set where no byte is held; else WriteE2 goes on with those that are.
 pub fn programmed(chip: &mut Chip)
-    ensures { (at chip.old.clocks 1 ≡ 0 → ⊥) → TurnsAgreeing programming_ended chip.old chip.new }
+    ensures turns { (at chip.old.clocks 1 ≡ 0 → ⊥) → TurnsAgreeing programming_ended chip.old chip.new }
+    ensures rest { chip.new ≡ with_clocks chip.new.clocks (with_numbers chip.new.numbers (with_state chip.new.state (with_latch chip.new.latch (with_eeprom chip.new.eeprom chip.old)))) }
 {
     let latched = chip.state[LATCHED];
     let waiting = chip.held();

@@ -1,5 +1,6 @@
 // The timer by any number of clocks (manual 5.2).
 ghost use Rattle.std.specs.Prelude.{◌+◌, ◌-◌, ◌/◌, ◌%◌, ◌^◌, ◌<◌, ◌≤◌, ◌≡◌, leb};
+ghost use Rattle.state.specs.View.{with_clocks, with_state};
 ghost use Rattle.machine.specs.ManyClocks.{timer_after};
 ghost use Rattle.event_clock_advance.specs.Clock.{TurnsFormed};
 
@@ -45,7 +46,8 @@ fn gone_round(value: u8, reload: u8, steps: u64) -> u8
 
 // So many clocks: the value falls by the steps that they make. A timer that comes to its end raises TimerIRq, and stops, or goes on with TAutoRestart.
 pub fn timer_clocked(chip: &mut Chip, by: u32)
-    ensures { TurnsFormed (timer_after by) chip.old chip.new }
+    ensures turns { TurnsFormed (timer_after by) chip.old chip.new }
+    ensures rest { chip.new ≡ with_clocks chip.new.clocks (with_state chip.new.state chip.old) }
 {
     if chip.state[RUNNING] != 1 {
         return;

@@ -5,7 +5,7 @@
 ghost use Rattle.std.specs.Prelude.{◌+◌, ◌≤◌, ◌≡◌, ◌++◌, length, take};
 ghost use Rattle.machine.specs.Refusals.{take_frame};
 ghost use Rattle.machine.specs.Frames.{frame_sent};
-ghost use Rattle.state.specs.View.{view, held_from};
+ghost use Rattle.state.specs.View.{view, held_from, with_clocks, with_state};
 ghost use Rattle.state.specs.Answers.{PromisesAnswer, frame_answer};
 ghost use Rattle.event_frame_take.specs.Front.{at_front, Put, checksum_bytes};
 
@@ -71,7 +71,8 @@ fn frame_into(chip: &Chip, buffer: &mut [u8]) -> usize
 
 // A take, with its refusals in their order. Answers the frame's length, and the last bits.
 pub fn take(chip: &mut Chip, buffer: &mut [u8]) -> Result<Frame, Refusal>
-    ensures { PromisesAnswer frame_answer chip.old (take_frame buffer.old) chip.new result buffer.new }
+    ensures turns { PromisesAnswer frame_answer chip.old (take_frame buffer.old) chip.new result buffer.new }
+    ensures rest { chip.new ≡ with_clocks chip.new.clocks (with_state chip.new.state chip.old) }
 {
     if !well_formed(chip) {
         return Err(Refusal::Malformed);

@@ -2,8 +2,9 @@
 
 #![tactic(auto)]
 
-ghost use Rattle.std.specs.Prelude.{[]};
+ghost use Rattle.std.specs.Prelude.{◌≡◌, []};
 ghost use Rattle.machine.specs.Refusals.{host_read};
+ghost use Rattle.state.specs.View.{with_state};
 ghost use Rattle.state.specs.Answers.{PromisesAnswer, byte_answer};
 
 mod registers;
@@ -18,7 +19,8 @@ use status::primary_status;
 
 // A host read: refusals in their order, and the register's byte; a read of FIFOData removes it. PrimaryStatus, which a host polls, is asked for first.
 pub fn host_read(chip: &mut Chip, address: u8) -> Result<Byte, Refusal>
-    ensures { PromisesAnswer byte_answer chip.old (host_read address) chip.new result [] }
+    ensures turns { PromisesAnswer byte_answer chip.old (host_read address) chip.new result [] }
+    ensures rest { chip.new ≡ with_state chip.new.state chip.old }
 {
     if !well_formed(chip) {
         return Err(Refusal::Malformed);

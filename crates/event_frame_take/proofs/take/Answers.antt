@@ -8,24 +8,24 @@ use Rattle.state.proofs.PowerLaws.{stands_by_word}
 use Rattle.state.proofs.ByteLaws.{known_bytes}
 use Rattle.event_frame_take.proofs.take.Goals as goal
 
-pub returns-then-not-well_formed : goal.returns-then-not-well_formed
-returns-then-not-well_formed c whole = malformed c.args.chip.now (take_frame c.args.buffer.now) tt (sym (c.if-not-well_formed.ensures whole.sizes)) whole
+pub returns-then-not-well_formed-clause-turns : goal.returns-then-not-well_formed-clause-turns
+returns-then-not-well_formed-clause-turns c whole = malformed c.args.chip.now (take_frame c.args.buffer.now) tt (sym (c.if-not-well_formed.ensures whole.sizes)) whole
 
-pub returns-then-buffer-lt66 : goal.returns-then-buffer-lt66
-returns-then-buffer-lt66 c whole =
+pub returns-then-buffer-lt66-clause-turns : goal.returns-then-buffer-lt66-clause-turns
+returns-then-buffer-lt66-clause-turns c whole =
     let old = c.args.chip.now in
     let buffer = c.args.buffer.now in
     refused old (take_frame buffer) 5 (take_short old (sym (c.if-not-well_formed.ensures whole.sizes)) buffer c.if-buffer-lt66.true).0 whole
 
-pub returns-then-not-frame_waits : goal.returns-then-not-frame_waits
-returns-then-not-frame_waits c whole =
+pub returns-then-not-frame_waits-clause-turns : goal.returns-then-not-frame_waits-clause-turns
+returns-then-not-frame_waits-clause-turns c whole =
     let old = c.args.chip.now in
     let buffer = c.args.buffer.now in
     let number = take_judged old (sym (c.if-not-well_formed.ensures whole.sizes)) buffer (omega arith) false _ (sym c.if-not-frame_waits.ensures) refl in
     refused old (take_frame buffer) 3 number.0 whole
 
-pub returns-then-modes_word-ne0 : goal.returns-then-modes_word-ne0
-returns-then-modes_word-ne0 c whole =
+pub returns-then-modes_word-ne0-clause-turns : goal.returns-then-modes_word-ne0-clause-turns
+returns-then-modes_word-ne0-clause-turns c whole =
     let old = c.args.chip.now in
     let buffer = c.args.buffer.now in
     let formed = sym (c.if-not-well_formed.ensures whole.sizes) in
@@ -34,14 +34,14 @@ returns-then-modes_word-ne0 c whole =
     (sym (stands_by_word old c.modes_word.result (own_fields_formed old formed) c.modes_word.ensures) ∙ ap not (ne_eqb _ 0 c.if-modes_word-ne0.true)) in
     refused old (take_frame buffer) 3 number.0 whole
 
-pub returns : goal.returns
+pub returns-clause-turns : goal.returns-clause-turns
 unfolding view_of buffer_taken
-returns c whole =
+returns-clause-turns c whole =
     let old = c.args.chip.now in
     let buffer = c.args.buffer.now in
     let formed = sym (c.if-not-well_formed.ensures whole.sizes) in
     let puts = c.frame_into-count.ensures.puts (few_held old formed) in
-    let goes = c.taken.ensures whole.sizes in
+    let goes = c.taken.ensures.turns whole.sizes in
     accepted_here old formed (take_frame buffer) c.taken.new.chip _ c.frame_into-count.new.buffer
     (search (rules, known_bytes)) whole
     (take_judged old formed buffer (omega arith) true false (sym c.if-not-frame_waits.ensures)

@@ -56,13 +56,13 @@ module _ (c : After-stands_still) where
         let is = is_run turn entry ends.0 in
         let start = batch_start k.next k.latched in
         let bytes = take k.latched here.latch in
-        let ticks = c.timer_clocked.ensures runs.sizes runs.fields runs.well in
-        let stores = c.programmed.ensures (still_left was runs.well c.timer_clocked.new.chip left ticks.machine (ap programs is)) ticks.sizes (ticks.fields runs.fields) in
+        let ticks = c.timer_clocked.ensures.turns runs.sizes runs.fields runs.well in
+        let stores = c.programmed.ensures.turns (still_left was runs.well c.timer_clocked.new.chip left ticks.machine (ap programs is)) ticks.sizes (ticks.fields runs.fields) in
         let stored = then ticks stores in
         let kept : (view c.programmed.new.chip).status.modes ≡ was.status.modes =
         ap (λ (m : Machine). m.status.modes) stored.machine ∙ modes_kept was runs.well runs.without start left bytes is in
         let without : stands_still (view c.programmed.new.chip) ≡ false = ap (λ (m : Modes). has_hold m.stand_by || has_hold m.power_down) kept ∙ runs.without in
-        let holds = c.hold_taken.ensures stored.sizes (stored.fields runs.fields) without in (
+        let holds = c.hold_taken.ensures.turns stored.sizes (stored.fields runs.fields) without in (
           becomes (clocks left) (then stored holds) (piece_ends was runs.well runs.without start left bytes is),
           ap (λ (m : Machine). m.status.modes) holds.machine ∙ ap (modes_clocked true) kept,
         )
@@ -76,9 +76,9 @@ module _ (c : After-stands_still) where
     had = further c.loop-chip.invariant entry c.loop-chip.left ends.1 to_its_end.0
 
 -- A mode has taken hold.
-pub returns-then-stands_still : goal.returns-then-stands_still
-returns-then-stands_still c sizes formed well without =
-    let behind = (goal.at.returns-then-stands_still c).After-stands_still in
+pub returns-then-stands_still-clause-turns : goal.returns-then-stands_still-clause-turns
+returns-then-stands_still-clause-turns c sizes formed well without =
+    let behind = (goal.at.returns-then-stands_still-clause-turns c).After-stands_still in
     let entry = entered sizes formed well without in
     let k = c.args.by in
     let n = c.loop-chip.rest - c.loop-chip.left in
@@ -113,15 +113,15 @@ loop-chip-preserved c =
     }
 
 -- Behind the loop, after the clocks that are left: nothing is programmed.
-pub returns-then-left-eq0 : goal.returns-then-left-eq0
+pub returns-then-left-eq0-clause-turns : goal.returns-then-left-eq0-clause-turns
 unfolding view_of
-returns-then-left-eq0 c sizes formed well without =
+returns-then-left-eq0-clause-turns c sizes formed well without =
     let turn = c.loop-chip.invariant in
     let entry = entered sizes formed well without in
     let runs = runs_here turn entry in
     let x = c.loop-chip.chip in
     let rest = c.loop-chip.rest in
-    let ticks = c.timer_clocked-2.ensures runs.sizes runs.fields runs.well in
+    let ticks = c.timer_clocked-2.ensures.turns runs.sizes runs.fields runs.well in
     all turn entry
     (further turn entry rest (omega arith)
     (becomes (clocks rest) ticks (piece_rests (view x) runs.well runs.without rest (is_idle (core x) x.latch (sym turn.known ∙ c.if-left-eq0.true)))))
@@ -131,9 +131,9 @@ pub overflow_sub-chip : goal.overflow_sub-chip
 overflow_sub-chip c =
     let past = goes_past c.loop-chip.left c.loop-chip.rest (sym c.ends_within.ensures ∙ c.loop-chip-test.false) c.if-left-eq0.false in omega (arith, past)
 
-pub returns : goal.returns
+pub returns-clause-turns : goal.returns-clause-turns
 unfolding view_of
-returns c sizes formed well without =
+returns-clause-turns c sizes formed well without =
     let turn = c.loop-chip.invariant in
     let past = goes_past c.loop-chip.left c.loop-chip.rest (sym c.ends_within.ensures ∙ c.loop-chip-test.false) c.if-left-eq0.false in
     let entry = entered sizes formed well without in
@@ -142,7 +142,7 @@ returns c sizes formed well without =
     let k = core x in
     let rest = c.loop-chip.rest in
     let left = c.loop-chip.left in
-    let ticks = c.timer_clocked-2.ensures runs.sizes runs.fields runs.well in
+    let ticks = c.timer_clocked-2.ensures.turns runs.sizes runs.fields runs.well in
     let y = c.timer_clocked-2.new.chip in
     let is = is_run turn entry c.if-left-eq0.false in
     let counts = left_turns y (left - rest) ticks.sizes (ticks.fields runs.fields) (still_left (view x) runs.well y rest ticks.machine (ap programs is)) (omega (arith, past)) in

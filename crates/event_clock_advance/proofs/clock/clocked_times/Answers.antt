@@ -10,21 +10,21 @@ use Rattle.state.specs.View.{view}
 use Rattle.state.proofs.TurnLaws.{then, becomes}
 use Rattle.event_clock_advance.proofs.clock.clocked_times.Goals as goal
 
-pub returns-then-rest-eq0 : goal.returns-then-rest-eq0
-returns-then-rest-eq0 c sizes formed well =
+pub returns-then-rest-eq0-clause-turns : goal.returns-then-rest-eq0-clause-turns
+returns-then-rest-eq0-clause-turns c sizes formed well =
     let by = c.args.by in
     let all : by - c.stood-rest.result ≡ by = omega (arith, c.if-rest-eq0.true) in
-    becomes (clocks by) (c.stood-rest.ensures sizes formed well).stood (ap (λ (n : ℕ). clocks n (view c.args.chip.now)) all)
+    becomes (clocks by) (c.stood-rest.ensures.turns sizes formed well).stood (ap (λ (n : ℕ). clocks n (view c.args.chip.now)) all)
 
-pub returns : goal.returns
-returns c sizes formed well =
+pub returns-clause-turns : goal.returns-clause-turns
+returns-clause-turns c sizes formed well =
     let m = view c.args.chip.now in
     let by = c.args.by in
     let rest = c.stood-rest.result in
-    let stood = c.stood-rest.ensures sizes formed well in
+    let stood = c.stood-rest.ensures.turns sizes formed well in
     let sum : by - rest + rest ≡ by = omega (arith, stood.within) in
     let first = stood.stood in
     becomes (clocks by)
     (then first
-    (c.clocked_reaching.ensures first.sizes (first.fields formed) (subst Formed (sym first.machine) (clocks_formed (by - rest) m well)) (stood.reaches c.if-rest-eq0.false)))
+    (c.clocked_reaching.ensures.turns first.sizes (first.fields formed) (subst Formed (sym first.machine) (clocks_formed (by - rest) m well)) (stood.reaches c.if-rest-eq0.false)))
     (sym (in_parts (by - rest) rest m) ∙ ap (λ (n : ℕ). clocks n m) sum)

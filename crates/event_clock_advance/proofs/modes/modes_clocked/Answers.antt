@@ -23,12 +23,12 @@ overflow_sub-result c =
     let by = c.args.by in
     omega (arith, is_most (goal.at.overflow_sub-result c).After-control_byte, standing_within k.stand_by by, standing_within k.power_down by)
 
-pub returns : goal.returns
-returns c sizes formed well =
+pub returns-clause-turns : goal.returns-clause-turns
+returns-clause-turns c sizes formed well =
     let old = c.args.chip.now in
     let k = core old in
     let is = c.control_byte.ensures in
-    stands_stored old formed sizes c.args.by c.max-stood.result (is_most (goal.at.returns c).After-control_byte)
+    stands_stored old formed sizes c.args.by c.max-stood.result (is_most (goal.at.returns-clause-turns c).After-control_byte)
     c.control_byte.result c.number_after.result c.number_after-2.result well
     (record {
       stand_by_lem = is.stand_by_lem ∙ ap (λ (t : Bool). bit_set k.control 5 && not t) c.left_within.ensures;

@@ -7,9 +7,9 @@ use Rattle.state.specs.View.{view}
 use Rattle.state.proofs.TurnLaws.{stays, becomes}
 use Rattle.event_clock_advance.proofs.modes.stood.Goals as goal
 
-pub returns-then-not-stands_still : goal.returns-then-not-stands_still
+pub returns-then-not-stands_still-clause-turns : goal.returns-then-not-stands_still-clause-turns
 unfolding clocks
-returns-then-not-stands_still c sizes formed well =
+returns-then-not-stands_still-clause-turns c sizes formed well =
     let old = c.args.chip.now in
     let by = c.args.by in
     let none : 0 ≡ by - by = omega arith in

@@ -46,27 +46,27 @@ module _ (c : After-store_batch) where
         let (writing, fits) = programs_here old formed some in
         ap (λ (d : Command). while_programming (λ a bs left. programmed a bs (view old)) (view old) d) (is_programming (core old) old.latch writing some)
 
-pub returns-then-waiting-eq0 : goal.returns-then-waiting-eq0
+pub returns-then-waiting-eq0-clause-turns : goal.returns-then-waiting-eq0-clause-turns
 unfolding view_of
-returns-then-waiting-eq0 c some sizes formed =
-    let behind = (goal.at.returns-then-waiting-eq0 c).After-store_batch in
+returns-then-waiting-eq0-clause-turns c some sizes formed =
+    let behind = (goal.at.returns-then-waiting-eq0-clause-turns c).After-store_batch in
     let here = c.args.chip.now in
     let (writing, fits) = programs_here here formed some in
     let stores = stored behind formed fits sizes in
     let none = sym (count_length c.held-waiting.ensures here.slots) ∙ c.if-waiting-eq0.true in
-    becomes programming_ended (then stores (c.requested.ensures stores.sizes)) (end_waits (from here) (bytes here) (view here) none ∙ sym (is_ended behind formed some))
+    becomes programming_ended (then stores (c.requested.ensures.turns stores.sizes)) (end_waits (from here) (bytes here) (view here) none ∙ sym (is_ended behind formed some))
 
-pub returns : goal.returns
+pub returns-clause-turns : goal.returns-clause-turns
 unfolding view_of
-returns c some sizes formed =
-    let behind = (goal.at.returns c).After-store_batch in
+returns-clause-turns c some sizes formed =
+    let behind = (goal.at.returns-clause-turns c).After-store_batch in
     let here = c.args.chip.now in
     let k = core here in
     let m = view here in
     let (writing, fits) = programs_here here formed some in
     let stores = stored behind formed fits sizes in
     let count = count_length c.held-waiting.ensures here.slots in
-    becomes programming_ended (then stores (c.bytes_latched.ensures stores.sizes))
+    becomes programming_ended (then stores (c.bytes_latched.ensures.turns stores.sizes))
     (ap (λ (n : ℕ). write_stepped (ready n) (batch_stored (from here) (bytes here) m)) (batch_next k.next k.latched fits (near behind formed) here.latch sizes.latch_count)
     ∙ end_latches (from here) (bytes here) m (λ none. c.if-waiting-eq0.false (count ∙ none))
     ∙ sym (is_ended behind formed some))

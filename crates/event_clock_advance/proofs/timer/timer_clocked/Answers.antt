@@ -28,52 +28,52 @@ comes_to_its_end c = omega (arith, leb-true (core c.args.chip.now).value c.steps
 runs : (asked : After-comes_to_end) → eqb (core asked.args.chip.now).running 1 ≡ true
 runs asked = eq-eqb (core asked.args.chip.now).running 1 asked.if-chip-ne1.false
 
-pub returns-then-chip-ne1 : goal.returns-then-chip-ne1
+pub returns-then-chip-ne1-clause-turns : goal.returns-then-chip-ne1-clause-turns
 unfolding view_of
-returns-then-chip-ne1 c sizes formed well =
+returns-then-chip-ne1-clause-turns c sizes formed well =
     let old = c.args.chip.now in
     becomes (timer_after c.args.by) (stays old sizes) (after_rests (view old) c.args.by (ne_eqb (core old).running 1 c.if-chip-ne1.true))
 
 pub fallen-requires : goal.fallen-requires
 fallen-requires c = goes_on_still (goal.at.fallen-requires c).Then-not-comes_to_end
 
-pub returns-then-not-comes_to_end : goal.returns-then-not-comes_to_end
+pub returns-then-not-comes_to_end-clause-turns : goal.returns-then-not-comes_to_end-clause-turns
 unfolding view_of
-returns-then-not-comes_to_end c sizes formed well =
+returns-then-not-comes_to_end-clause-turns c sizes formed well =
     let old = c.args.chip.now in
     let steps = c.steps_made-steps in
     let next = c.phase_after-next in
     becomes (timer_after c.args.by) (goes_on_lem old c.fallen.result next.result sizes)
     (ap (λ (v : ℕ). goes_on v next.result (view old)) c.fallen.ensures
-    ∙ after_falls (view old) c.args.by steps.result next.result (runs (goal.at.returns-then-not-comes_to_end c).After-comes_to_end) (well_timer (view old) well.well) steps.ensures next.ensures
-    (goes_on_still (goal.at.returns-then-not-comes_to_end c).Then-not-comes_to_end))
+    ∙ after_falls (view old) c.args.by steps.result next.result (runs (goal.at.returns-then-not-comes_to_end-clause-turns c).After-comes_to_end) (well_timer (view old) well.well) steps.ensures next.ensures
+    (goes_on_still (goal.at.returns-then-not-comes_to_end-clause-turns c).Then-not-comes_to_end))
 
 pub gone_round-requires : goal.gone_round-requires
 gone_round-requires c =
     let registers = c.args.chip.now.registers in
     (comes_to_its_end (goal.at.gone_round-requires c).Else-not-comes_to_end, goes_round (bit_set (at registers 0x1A) 5) (at registers 0x1C) (sym c.restarts.ensures ∙ c.if-restarts.true))
 
-pub returns-then-restarts : goal.returns-then-restarts
+pub returns-then-restarts-clause-turns : goal.returns-then-restarts-clause-turns
 unfolding view_of
-returns-then-restarts c sizes formed well =
+returns-then-restarts-clause-turns c sizes formed well =
     let old = c.args.chip.now in
     let steps = c.steps_made-steps in
     let next = c.phase_after-next in
     let stores = goes_on_lem old c.gone_round.result next.result sizes in
-    becomes (timer_after c.args.by) (then stores (c.requested.ensures stores.sizes))
+    becomes (timer_after c.args.by) (then stores (c.requested.ensures.turns stores.sizes))
     (ap (λ (v : ℕ). raised_timer (goes_on v next.result (view old))) c.gone_round.ensures
-    ∙ after_restarts (view old) c.args.by steps.result next.result (runs (goal.at.returns-then-restarts c).After-comes_to_end) (well_timer (view old) well.well) steps.ensures next.ensures
-    (comes_to_its_end (goal.at.returns-then-restarts c).Else-not-comes_to_end) (sym c.restarts.ensures ∙ c.if-restarts.true))
+    ∙ after_restarts (view old) c.args.by steps.result next.result (runs (goal.at.returns-then-restarts-clause-turns c).After-comes_to_end) (well_timer (view old) well.well) steps.ensures next.ensures
+    (comes_to_its_end (goal.at.returns-then-restarts-clause-turns c).Else-not-comes_to_end) (sym c.restarts.ensures ∙ c.if-restarts.true))
 
-pub returns : goal.returns
+pub returns-clause-turns : goal.returns-clause-turns
 unfolding view_of
-returns c sizes formed well =
+returns-clause-turns c sizes formed well =
     let old = c.args.chip.now in
     let steps = c.steps_made-steps in
     let next = c.phase_after-next in
     let stopped = c.timer_stopped.new.chip in
-    let stop = c.timer_stopped.ensures sizes in
+    let stop = c.timer_stopped.ensures.turns sizes in
     let none = set_byte value_gone stopped.state 15 0 stopped (lit< tt) refl stop.sizes refl (λ bytes. refl) in
-    becomes (timer_after c.args.by) (then (then stop none) (c.requested-2.ensures none.sizes))
-    (after_stops (view old) c.args.by steps.result next.result (runs (goal.at.returns c).After-comes_to_end) (well_timer (view old) well.well) steps.ensures next.ensures
-    (comes_to_its_end (goal.at.returns c).Else-not-comes_to_end) (sym c.restarts.ensures ∙ c.if-restarts.false))
+    becomes (timer_after c.args.by) (then (then stop none) (c.requested-2.ensures.turns none.sizes))
+    (after_stops (view old) c.args.by steps.result next.result (runs (goal.at.returns-clause-turns c).After-comes_to_end) (well_timer (view old) well.well) steps.ensures next.ensures
+    (comes_to_its_end (goal.at.returns-clause-turns c).Else-not-comes_to_end) (sym c.restarts.ensures ∙ c.if-restarts.false))

@@ -9,9 +9,9 @@ use Rattle.state.proofs.TurnLaws.{becomes, sized_state}
 use Rattle.event_frame_take.proofs.SentLaws.{transceive_sends, others_end, receives_agrees}
 use Rattle.event_frame_take.proofs.sent.after_sending.Goals as goal
 
-pub returns-then-chip-eq-TRANSCEIVE_SENDING : goal.returns-then-chip-eq-TRANSCEIVE_SENDING
+pub returns-then-chip-eq-TRANSCEIVE_SENDING-clause-turns : goal.returns-then-chip-eq-TRANSCEIVE_SENDING-clause-turns
 unfolding view_of
-returns-then-chip-eq-TRANSCEIVE_SENDING c sizes =
+returns-then-chip-eq-TRANSCEIVE_SENDING-clause-turns c sizes =
     let old = c.args.chip.now in
     let receiving = set old.state 12 0x9E in
     let k = core old in
@@ -20,8 +20,8 @@ returns-then-chip-eq-TRANSCEIVE_SENDING c sizes =
     (ap (λ (d : Command). after_sending d (view old)) (transceive_sends k old.latch c.if-chip-eq-TRANSCEIVE_SENDING.true))
     (λ formed. both (receives_agrees k.stage k.latched k.left k.next c.if-chip-eq-TRANSCEIVE_SENDING.true (stage_agrees old formed)) (others_agree old formed))
 
-pub returns : goal.returns
+pub returns-clause-turns : goal.returns-clause-turns
 unfolding view_of
-returns c sizes =
+returns-clause-turns c sizes =
     let old = c.args.chip.now in
-    becomes (λ m. after_sending m.command m) (c.ended.ensures sizes) (others_end (core old) old.latch (view old) c.if-chip-eq-TRANSCEIVE_SENDING.false)
+    becomes (λ m. after_sending m.command m) (c.ended.ensures.turns sizes) (others_end (core old) old.latch (view old) c.if-chip-eq-TRANSCEIVE_SENDING.false)

@@ -1,1 +1,2 @@
 pub mod ArgumentLaws
+pub mod HeldLaws

@@ -3,97 +3,84 @@
 
 #![tactic(auto)]
 
-ghost use Rattle.std.specs.Prelude.{◌≡◌, true};
+ghost use Rattle.std.specs.Prelude.{◌≡◌, true, MatchOption};
 ghost use Rattle.machine.specs.State.{with_command};
-ghost use Rattle.machine.specs.Commands.{checksum_started as commands_checksum_started, command_started, command_written as commands_command_written};
-ghost use Rattle.state.specs.Lent.{clocks_state, numbers_state_registers, clocks_numbers_state_registers};
+ghost use Rattle.machine.specs.Commands.{checksum_started, command_started, command_written};
 ghost use Rattle.state.specs.Turns.{Turns};
-ghost use Rattle.command_begin.specs.Begins.{begins, begun as begins_begun};
+ghost use Rattle.command_begin.specs.Begins.{begins, begun, prepared, BeginsIn, IsUnknown};
 
-use state::{CRC_MODE, CRC_REGISTER, LATCHED, LEFT, STAGE, cleared, ended, programs};
+use state::{
+    CALC_CRC, CRC_MODE, CRC_REGISTER, Chip, IDLE, LATCHED, LEFT, LOAD_CONFIG, LOAD_KEY,
+    LOAD_KEY_E2, READ_E2, RECEIVE, STAGE, TRANSCEIVE_SENDING, TRANSMIT, WRITE_E2,
+};
 
 // CalcCRC starts: it reads its mode and presets. The mode is stored only where it is another: it lies in a word that is judged at every host access, and a
 // store delays the load of that word.
-pub fn checksum_started(numbers: &mut [u16; 6], state: &mut [u8; 24], registers: &[u8; 32])
-    ensures { let before = numbers_state_registers numbers.old state.old registers.now in
-        let after = numbers_state_registers numbers.new state.new registers.now in
-        Turns commands_checksum_started before after }
+pub fn checksum_started(chip: &mut Chip)
+    ensures { Turns checksum_started chip.old chip.new }
 {
-    let mode = registers[0x22 - 0x10];
-    let lsb = registers[0x23 - 0x10];
-    let msb = registers[0x24 - 0x10];
-    numbers[CRC_REGISTER] = crc::preset(mode, lsb, msb);
-    if state[CRC_MODE] != mode {
-        state[CRC_MODE] = mode;
+    let mode = chip.registers[0x22 - 0x10];
+    let lsb = chip.registers[0x23 - 0x10];
+    let msb = chip.registers[0x24 - 0x10];
+    chip.numbers[CRC_REGISTER] = crc::preset(mode, lsb, msb);
+    if chip.state[CRC_MODE] != mode {
+        chip.state[CRC_MODE] = mode;
+    }
+}
+
+// The stage in which a code's command begins: the code, with bit 6 of one that sends and bit 7 of one that receives. None of an unknown code.
+fn first_stage(code: u8) -> Option<u8>
+    ensures { MatchOption result (IsUnknown code) (BeginsIn code) }
+{
+    match code {
+        IDLE | WRITE_E2 | READ_E2 | LOAD_CONFIG | LOAD_KEY_E2 | CALC_CRC | LOAD_KEY => Some(code),
+        0x16 => Some(RECEIVE),
+        0x1A => Some(TRANSMIT),
+        0x1E => Some(TRANSCEIVE_SENDING),
+        _ => None,
+    }
+}
+
+// What a code's command does before it begins: LoadKeyE2 and LoadKey clear KeyErr, and CalcCRC reads its presets.
+fn prepared(chip: &mut Chip, code: u8)
+    ensures { Turns (prepared code) chip.old chip.new }
+{
+    match code {
+        LOAD_KEY_E2 | LOAD_KEY => chip.cleared(0x40),
+        CALC_CRC => checksum_started(chip),
+        _ => {}
     }
 }
 
 // The command becomes that of a stage in which one begins; nothing is latched, and no programming clocks are left.
-fn switched(clocks: &mut [u32; 2], state: &mut [u8; 24], stage: u8)
-    ensures { let before = clocks_state clocks.old state.old in
-        let after = clocks_state clocks.new state.new in
-        (begins stage ≡ true → Turns (with_command (begins_begun stage)) before after) }
+fn switched(chip: &mut Chip, stage: u8)
+    ensures { begins stage ≡ true → Turns (with_command (begun stage)) chip.old chip.new }
 {
-    clocks[LEFT] = 0;
-    state[STAGE] = stage;
-    state[LATCHED] = 0;
+    chip.clocks[LEFT] = 0;
+    chip.state[STAGE] = stage;
+    chip.state[LATCHED] = 0;
 }
 
-// A code is started. LoadKeyE2 and LoadKey clear KeyErr, CalcCRC reads its presets, and an unknown code ends at once.
-fn begun(
-    clocks: &mut [u32; 2],
-    numbers: &mut [u16; 6],
-    state: &mut [u8; 24],
-    registers: &[u8; 32],
-    code: u8,
-)
-    ensures { let before = clocks_numbers_state_registers clocks.old numbers.old state.old
-        registers.now in
-        let after = clocks_numbers_state_registers clocks.new numbers.new state.new
-        registers.now in
-        Turns (command_started code) before after }
+// A code is started; an unknown one ends at once.
+fn begun(chip: &mut Chip, code: u8)
+    ensures { Turns (command_started code) chip.old chip.new }
 {
-    match code {
-        0x00 => switched(clocks, state, 0x00),
-        0x01 => switched(clocks, state, 0x01),
-        0x03 => switched(clocks, state, 0x03),
-        0x07 => switched(clocks, state, 0x07),
-        0x0B => {
-            cleared(state, 0x40);
-            switched(clocks, state, 0x0B);
+    match first_stage(code) {
+        Some(stage) => {
+            prepared(chip, code);
+            switched(chip, stage);
         }
-        0x12 => {
-            checksum_started(numbers, state, registers);
-            switched(clocks, state, 0x12);
-        }
-        0x16 => switched(clocks, state, 0x96),
-        0x19 => {
-            cleared(state, 0x40);
-            switched(clocks, state, 0x19);
-        }
-        0x1A => switched(clocks, state, 0x5A),
-        0x1E => switched(clocks, state, 0x5E),
-        _ => ended(clocks, state),
+        None => chip.ended(),
     }
 }
 
 // Command is written; the code is in bits 5-0. AccessErr, CRCErr and ParityErr are cleared.
-pub fn command_written(
-    clocks: &mut [u32; 2],
-    numbers: &mut [u16; 6],
-    state: &mut [u8; 24],
-    registers: &[u8; 32],
-    v: u8,
-)
-    ensures { let before = clocks_numbers_state_registers clocks.old numbers.old state.old
-        registers.now in
-        let after = clocks_numbers_state_registers clocks.new numbers.new state.new
-        registers.now in
-        Turns (commands_command_written v) before after }
+pub fn command_written(chip: &mut Chip, v: u8)
+    ensures { Turns (command_written v) chip.old chip.new }
 {
-    if programs(clocks, state) {
+    if chip.programs() {
         return;
     }
-    cleared(state, 0x2A);
-    begun(clocks, numbers, state, registers, v % 64);
+    chip.cleared(0x2A);
+    begun(chip, v % 64);
 }

@@ -4,18 +4,17 @@ use Prim.Native.Nat.{ℕ, ◌+◌, ◌%◌, ◌<◌, ◌≤◌}
 use native.Mathlib.Omega.{arith}
 use mathlib.Core.Path.{◌≡◌, refl, sym, ap, ◌∙◌}
 use mathlib.Core.List.{List}
-use lib.ListN.{length, get_or, drop, set, length-set}
+use lib.Dec.{lit<}
+use lib.ListN.{length, get_or, drop, set}
 use Rattle.crc.specs.Checksum.{taps_of, absorbed, absorbed_all}
 use Rattle.crc.proofs.Laws.{next_byte, no_byte}
 use Rattle.machine.specs.State.{Machine, with_checksum}
 use Rattle.machine.specs.Commands.{checksum_taken}
-use Rattle.machine.proofs.WellFormed.Parts.{both}
-use Rattle.state.specs.View.{at, held_from, view, view_of}
-use Rattle.state.specs.Lent.{numbers_state_slots}
+use Rattle.state.specs.View.{at, held_from, view, view_of, with_numbers}
+use Rattle.state.specs.declared.Chip.{Chip}
 use Rattle.state.specs.Turns.{Counts, Turns}
 use Rattle.state.proofs.RingLaws.{held_length, held_at}
-use Rattle.state.proofs.StoreLaws.{at_set, stored, stage_agrees, others_agree}
-use Rattle.state.proofs.TurnLaws.{sized_numbers}
+use Rattle.state.proofs.StoreLaws.{set_number}
 
 -- The next byte is absorbed, and the last.
 pub absorb_turn : (mode next : ℕ) (slots : List ℕ) (p n i : ℕ) → i < n →
@@ -34,12 +33,9 @@ abbrev pub summed : Machine → Machine
 summed m = with_checksum (checksum_taken m).checksum m
 
 -- The register after all held bytes is stored.
-pub sum_stored : (numbers l slots : List ℕ) (n x : ℕ) → Counts (at l 13) (at l 14) n → x ≡ absorbed_all (at l 5) (at numbers 0) (held_from slots (at l 13) n) →
-    Turns summed (numbers_state_slots numbers l slots) (numbers_state_slots (set numbers 0 x) l slots)
+pub sum_stored : (c : Chip) (n x : ℕ) → Counts (at c.state 13) (at c.state 14) n → x ≡ absorbed_all (at c.state 5) (at c.numbers 0) (held_from c.slots (at c.state 13) n) →
+    Turns summed c (with_numbers (set c.numbers 0 x) c)
 unfolding view_of
-sum_stored numbers l slots n x p is c sizes =
-    let old = numbers_state_slots numbers l slots c in
-    stored (numbers_state_slots (set numbers 0 x) l slots c) refl (at_set numbers 0 x (omega (arith, sizes.number_count))) refl summed old
-    (sized_numbers sizes (set numbers 0 x) (length-set numbers 0 x ∙ sizes.number_count))
-    (ap (λ (k : ℕ). with_checksum (record { register = k; mode = at l 5 }) (view old)) (is ∙ ap (λ (k : ℕ). absorbed_all (at l 5) (at numbers 0) (held_from slots (at l 13) k)) p.counted))
-    (λ formed. both (stage_agrees old formed) (others_agree old formed))
+sum_stored c n x p is sizes =
+    set_number summed 0 x c (lit< tt) refl sizes
+    (ap (λ (k : ℕ). with_checksum (record { register = k; mode = at c.state 5 }) (view c)) (is ∙ ap (λ (k : ℕ). absorbed_all (at c.state 5) (at c.numbers 0) (held_from c.slots (at c.state 13) k)) p.counted))

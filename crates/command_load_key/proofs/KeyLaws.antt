@@ -11,23 +11,24 @@ use Rattle.key.specs.Key.{format_holds, judged_key}
 use Rattle.machine.specs.State.{Machine, LoadKeyE2, LoadKey, with_key}
 use Rattle.machine.specs.Memory.{address_of, bytes_from}
 use Rattle.machine.specs.Commands.{with_key_err, ended, argument, taken, key_judged, key_from, stepped_as}
+use Rattle.state.specs.View as state
 use Rattle.state.specs.View.{view_of, is_set}
+use Rattle.state.specs.declared.Chip.{Chip}
 use Rattle.state.specs.Formed.{is_flag}
 use Rattle.state.specs.Turns.{Turns}
 use Rattle.state.proofs.StoreLaws.{at_set, stored, keeps_byte}
 use Rattle.state.proofs.TurnLaws.{sized_state, sized_key}
-use Rattle.command_load_key.specs.Lent.{state_key}
 use Rattle.command_load_key.specs.Emptied.{key_emptied}
 use Rattle.command_arguments.proofs.ArgumentLaws.{all_held}
 
 -- The bytes of a key, and whether one is loaded.
-pub key_stored : (l key made : List ℕ) (x : ℕ) → is_flag x ≡ true → length made ≡ 6 →
-    Turns (with_key (record { loaded = is_set x; bytes = made })) (state_key l key) (state_key (set l 2 x) made)
+pub key_stored : (old : Chip) (made : List ℕ) (x : ℕ) → is_flag x ≡ true → length made ≡ 6 →
+    Turns (with_key (record { loaded = is_set x; bytes = made })) old (state.with_state (set old.state 2 x) (state.with_key made old))
 unfolding view_of
-key_stored l key made x flag size c sizes =
-    let old = state_key l key c in
-    stored (state_key (set l 2 x) made c) refl refl (at_set l 2 x (omega (arith, sizes.state_count))) (with_key (record { loaded = is_set x; bytes = made })) old
-    (sized_state (sized_key sizes made size) (set l 2 x) (length-set l 2 x ∙ sizes.state_count)) refl (keeps_byte old 2 x refl (λ bytes. flag))
+key_stored old made x flag size sizes =
+    let l = set old.state 2 x in
+    stored (state.with_state l (state.with_key made old)) refl refl (at_set old.state 2 x (omega (arith, sizes.state_count))) (with_key (record { loaded = is_set x; bytes = made })) old
+    (sized_state (sized_key sizes made size) l (length-set old.state 2 x ∙ sizes.state_count)) refl (keeps_byte old 2 x refl (λ bytes. flag))
 
 -- A key judged by a test, from these bytes.
 abbrev judged_by : Machine → Bool → List ℕ → Machine

@@ -4,70 +4,55 @@
 
 ghost use Rattle.std.specs.Prelude.{◌≤◌};
 ghost use Rattle.machine.specs.Commands.{settled, lost_settling};
-ghost use Rattle.state.specs.Lent.{assembled};
-ghost use Rattle.state.specs.Turns.{TurnsAllLosing};
+ghost use Rattle.state.specs.Turns.{TurnsLosing};
 
 use command_calc_crc::calc_crc;
 use command_load_config::load_config;
 use command_load_key::{load_key, load_key_e2};
 use command_read_e2::read_e2;
 use command_write_e2::{address_taken, bytes_latched};
-use state::{LEFT, STAGE, held};
+use state::{Chip, LEFT, STAGE};
 
 // All that it does at once: WriteE2 takes its address and then latches bytes, every other command needs one step. Idle and the commands that send or receive
 // take no waiting byte here, and neither does a WriteE2 that programs. Answers how many bytes were lost: only ReadE2 offers any.
-pub fn worked(
-    clocks: &mut [u32; 2],
-    numbers: &mut [u16; 6],
-    state: &mut [u8; 24],
-    registers: &mut [u8; 32],
-    slots: &mut [u8; 64],
-    latch: &mut [u8; 16],
-    key: &mut [u8; 6],
-    eeprom: &[u8; 512],
-) -> u8
-    ensures turns { let before = assembled clocks.old numbers.old state.old registers.old
-        slots.old latch.old key.old eeprom.now in
-        let after = assembled clocks.new numbers.new state.new registers.new
-        slots.new latch.new key.new eeprom.now in
-        TurnsAllLosing settled lost_settling before after result }
+pub fn worked(chip: &mut Chip) -> u8
+    ensures turns { TurnsLosing settled lost_settling chip.old chip.new result }
     ensures small { result ≤ 128 }
 {
-    let stage = state[STAGE];
-    match stage {
+    match chip.state[STAGE] {
         0x01 => {
-            if clocks[LEFT] != 0 {
+            if chip.clocks[LEFT] != 0 {
                 return 0;
             }
-            if held(state) < 2 {
+            if chip.held() < 2 {
                 return 0;
             }
-            address_taken(clocks, numbers, state, slots);
-            bytes_latched(clocks, numbers, state, slots, latch);
+            address_taken(chip);
+            bytes_latched(chip);
             0
         }
         0x41 => {
-            if clocks[LEFT] != 0 {
+            if chip.clocks[LEFT] != 0 {
                 return 0;
             }
-            bytes_latched(clocks, numbers, state, slots, latch);
+            bytes_latched(chip);
             0
         }
-        0x03 => read_e2(clocks, numbers, state, slots, eeprom),
+        0x03 => read_e2(chip),
         0x07 => {
-            load_config(clocks, state, registers, slots, eeprom);
+            load_config(chip);
             0
         }
         0x0B => {
-            load_key_e2(clocks, state, slots, key, eeprom);
+            load_key_e2(chip);
             0
         }
         0x12 => {
-            calc_crc(numbers, state, slots);
+            calc_crc(chip);
             0
         }
         0x19 => {
-            load_key(clocks, state, slots, key);
+            load_key(chip);
             0
         }
         _ => 0,

@@ -3,106 +3,72 @@
 
 #![tactic(auto)]
 
-ghost use Rattle.std.specs.Prelude.{◌%◌, min, ◌≡◌};
+ghost use Rattle.std.specs.Prelude.{◌%◌, ◌≤◌, ◌++◌, min, drop, length, ◌≡◌};
 ghost use Rattle.machine.specs.State.{addressing, ready};
 ghost use Rattle.machine.specs.Memory.{room_in_block};
 ghost use Rattle.machine.specs.Commands.{write_stepped};
-ghost use Rattle.state.specs.View.{at, batch_start as view_batch_start, view};
-ghost use Rattle.state.specs.Lent.{clocks_numbers_state_slots, clocks_numbers_state_slots_latch};
+ghost use Rattle.state.specs.View.{at, batch_start as view_batch_start, held_from, view};
 ghost use Rattle.state.specs.Turns.{Sizes, Turns};
-ghost use Rattle.state.specs.declared.Chip.{Chip};
 ghost use Rattle.command_write_e2.specs.Next.{next_after};
-ghost use Rattle.command_write_e2.specs.Latched.{latched_from};
 
-use command_arguments::address;
-use state::{LATCHED, LEFT, NEXT, READ, STAGE, ended, failed, held};
+use command_arguments::{address, held_copied};
+use state::{Chip, LATCHED, LEFT, NEXT, READ, STAGE};
 use state_fifo::taken;
 
 // WriteE2 waits for its address: the first two held bytes are it.
-pub fn address_taken(
-    clocks: &mut [u32; 2],
-    numbers: &mut [u16; 6],
-    state: &mut [u8; 24],
-    slots: &[u8; 64],
-)
-    ensures turns { let before = clocks_numbers_state_slots clocks.old numbers.old state.old
-        slots.now in
-        let after = clocks_numbers_state_slots clocks.new numbers.new state.new
-        slots.now in
-        Turns (write_stepped addressing) before after }
-    ensures next { let before = clocks_numbers_state_slots clocks.old numbers.old state.old
-        slots.now in
-        let old = at numbers.old 1 in
-        let next = at numbers.new 1 in
-        ((c : Chip) → Sizes (before c) → next ≡ next_after old (view (before c))) }
+pub fn address_taken(chip: &mut Chip)
+    ensures turns { Turns (write_stepped addressing) chip.old chip.new }
+    ensures next { Sizes chip.old → at chip.new.numbers 1 ≡ next_after (at chip.old.numbers 1) (view chip.old) }
 {
-    if held(state) < 2 {
+    if chip.held() < 2 {
         return;
     }
-    numbers[NEXT] = address(state, slots);
-    clocks[LEFT] = 0;
-    state[LATCHED] = 0;
-    state[STAGE] = 0x41;
-    taken(state, 2);
+    let next = address(chip);
+    taken(chip, 2);
+    chip.numbers[NEXT] = next;
+    chip.clocks[LEFT] = 0;
+    chip.state[LATCHED] = 0;
+    chip.state[STAGE] = 0x41;
 }
 
 // How many of the held bytes are latched: as many as there are, or as there is room for before the end of the block.
 fn batch(count: u8, next: u16) -> u8
     ensures { result ≡ min count (room_in_block next) }
 {
-    let room = (16 - next % 16) as u8;
-    if count < room { count } else { room }
+    count.min((16 - next % 16) as u8)
 }
 
-// Held bytes, the first from a position on, are copied into the latch. An index is kept inside its array by a remainder.
+// Held bytes, the first from a position on, are copied to the front of the latch.
 fn latch_bytes(latch: &mut [u8; 16], slots: &[u8; 64], position: u8, count: u8)
-    ensures { let latched = latched_from latch.old slots.now position count in
-        latch.new ≡ latched }
+    requires { count ≤ 16 }
+    ensures { length latch.old ≡ 16 → latch.new ≡ held_from slots.now position count ++ drop count latch.old }
 {
-    let start = position as usize;
-    let end = count as usize;
-    let mut i: usize = 0;
-    while i < end {
-        let from = (start + i) % 64;
-        let to = i % 16;
-        latch[to] = slots[from];
-        i += 1;
-    }
+    held_copied(slots, position, &mut latch[..count as usize]);
 }
 
 // WriteE2 has its address: held bytes are latched up to the end of the block, and their programming starts, which takes 5.8 ms; below 010h it ends with
 // AccessErr and takes none.
-pub fn bytes_latched(
-    clocks: &mut [u32; 2],
-    numbers: &mut [u16; 6],
-    state: &mut [u8; 24],
-    slots: &[u8; 64],
-    latch: &mut [u8; 16],
-)
-    ensures { let before = clocks_numbers_state_slots_latch clocks.old numbers.old state.old
-        slots.now latch.old in
-        let after = clocks_numbers_state_slots_latch clocks.new numbers.new state.new
-        slots.now latch.new in
-        let next = at numbers.old 1 in
-        Turns (write_stepped (ready (next % 0x200))) before after }
+pub fn bytes_latched(chip: &mut Chip)
+    ensures { let next = at chip.old.numbers 1 in
+        Turns (write_stepped (ready (next % 0x200))) chip.old chip.new }
 {
-    let waiting = held(state);
+    let waiting = chip.held();
     if waiting == 0 {
         return;
     }
-    let next = numbers[NEXT] % 0x200;
+    let next = chip.numbers[NEXT] % 0x200;
     if next < 0x10 {
-        failed(state, 0x20);
-        ended(clocks, state);
+        chip.failed(0x20);
+        chip.ended();
         return;
     }
     let count = batch(waiting, next);
-    latch_bytes(latch, slots, state[READ], count);
-    numbers[NEXT] = (next + count as u16) % 0x200;
-    clocks[LEFT] = 78_648;
-    state[LATCHED] = count;
-    state[STAGE] = 0x41;
-    taken(state, count);
+    latch_bytes(&mut chip.latch, &chip.slots, chip.state[READ], count);
+    chip.numbers[NEXT] = (next + count as u16) % 0x200;
+    chip.clocks[LEFT] = 78_648;
+    chip.state[LATCHED] = count;
+    chip.state[STAGE] = 0x41;
+    taken(chip, count);
 }
 
 // Where the latched bytes go: they end where the next byte goes.

@@ -1,5 +1,5 @@
-// The six events by value: the chip is passed in, and handed back with the answer. Each copies the arrays into locals and lends those to the event on the
-// arrays. So does the call for the sum of lost bytes, which hands no chip back, since it changes none. `whole` says for the proof what the chip is by its types.
+// The six events by value: the chip is passed in, and handed back with the answer. Each is the event in place, on a chip of its own. So is the call for the sum of
+// lost bytes, which hands no chip back, since it changes none.
 
 #![tactic(auto)]
 
@@ -8,6 +8,10 @@ ghost use Rattle.machine.specs.Refusals.{start as refusals_start, host_read as r
 ghost use Rattle.state.specs.Meets.{Meets};
 ghost use Rattle.state.specs.LostSum.{lost_sum_of};
 
+use entry_in_place::{
+    mfrc531_advance, mfrc531_deliver, mfrc531_lost_sum, mfrc531_read, mfrc531_start, mfrc531_take,
+    mfrc531_write,
+};
 use state::Chip;
 
 // What an event by value gives back: the next chip, and the number answered.
@@ -21,36 +25,8 @@ pub struct Outcome {
 pub fn start(chip: Chip, image: &[u8]) -> Outcome
     ensures { Meets chip (refusals_start image.now) result.chip result.answer [] }
 {
-    entry_walk::whole(&chip);
-    let mut clocks = chip.clocks;
-    let mut numbers = chip.numbers;
-    let mut state = chip.state;
-    let mut registers = chip.registers;
-    let mut slots = chip.slots;
-    let mut latch = chip.latch;
-    let mut key = chip.key;
-    let mut eeprom = chip.eeprom;
-    let started = event_image_start::start(
-        &mut clocks,
-        &mut numbers,
-        &mut state,
-        &mut registers,
-        &mut slots,
-        &mut latch,
-        &mut key,
-        &mut eeprom,
-        image,
-    );
-    let next = Chip {
-        clocks: clocks,
-        numbers: numbers,
-        state: state,
-        registers: registers,
-        slots: slots,
-        latch: latch,
-        key: key,
-        eeprom: eeprom,
-    };
+    let mut next = chip;
+    let started = mfrc531_start(&mut next, image);
     Outcome {
         chip: next,
         answer: started,
@@ -61,28 +37,8 @@ pub fn start(chip: Chip, image: &[u8]) -> Outcome
 pub fn host_read(chip: Chip, address: u8) -> Outcome
     ensures { Meets chip (refusals_host_read address) result.chip result.answer [] }
 {
-    entry_walk::whole(&chip);
-    let clocks = chip.clocks;
-    let numbers = chip.numbers;
-    let mut state = chip.state;
-    let registers = chip.registers;
-    let slots = chip.slots;
-    let latch = chip.latch;
-    let key = chip.key;
-    let eeprom = chip.eeprom;
-    let read = event_host_read::host_read(
-        &clocks, &numbers, &mut state, &registers, &slots, &eeprom, address,
-    );
-    let next = Chip {
-        clocks: clocks,
-        numbers: numbers,
-        state: state,
-        registers: registers,
-        slots: slots,
-        latch: latch,
-        key: key,
-        eeprom: eeprom,
-    };
+    let mut next = chip;
+    let read = mfrc531_read(&mut next, address);
     Outcome {
         chip: next,
         answer: read,
@@ -93,37 +49,8 @@ pub fn host_read(chip: Chip, address: u8) -> Outcome
 pub fn host_write(chip: Chip, address: u8, v: u8) -> Outcome
     ensures { Meets chip (refusals_host_write address v) result.chip result.answer [] }
 {
-    entry_walk::whole(&chip);
-    let mut clocks = chip.clocks;
-    let mut numbers = chip.numbers;
-    let mut state = chip.state;
-    let mut registers = chip.registers;
-    let mut slots = chip.slots;
-    let mut latch = chip.latch;
-    let mut key = chip.key;
-    let eeprom = chip.eeprom;
-    let written = event_host_write::host_write(
-        &mut clocks,
-        &mut numbers,
-        &mut state,
-        &mut registers,
-        &mut slots,
-        &mut latch,
-        &mut key,
-        &eeprom,
-        address,
-        v,
-    );
-    let next = Chip {
-        clocks: clocks,
-        numbers: numbers,
-        state: state,
-        registers: registers,
-        slots: slots,
-        latch: latch,
-        key: key,
-        eeprom: eeprom,
-    };
+    let mut next = chip;
+    let written = mfrc531_write(&mut next, address, v);
     Outcome {
         chip: next,
         answer: written,
@@ -134,36 +61,8 @@ pub fn host_write(chip: Chip, address: u8, v: u8) -> Outcome
 pub fn advance(chip: Chip, by: u32) -> Outcome
     ensures { Meets chip (refusals_advance by) result.chip result.answer [] }
 {
-    entry_walk::whole(&chip);
-    let mut clocks = chip.clocks;
-    let mut numbers = chip.numbers;
-    let mut state = chip.state;
-    let registers = chip.registers;
-    let slots = chip.slots;
-    let mut latch = chip.latch;
-    let key = chip.key;
-    let mut eeprom = chip.eeprom;
-    let advanced = event_clock_advance::advance(
-        &mut clocks,
-        &mut numbers,
-        &mut state,
-        &registers,
-        &slots,
-        &mut latch,
-        &key,
-        &mut eeprom,
-        by,
-    );
-    let next = Chip {
-        clocks: clocks,
-        numbers: numbers,
-        state: state,
-        registers: registers,
-        slots: slots,
-        latch: latch,
-        key: key,
-        eeprom: eeprom,
-    };
+    let mut next = chip;
+    let advanced = mfrc531_advance(&mut next, by);
     Outcome {
         chip: next,
         answer: advanced,
@@ -174,34 +73,8 @@ pub fn advance(chip: Chip, by: u32) -> Outcome
 pub fn take(chip: Chip, buffer: &mut [u8]) -> Outcome
     ensures { Meets chip (take_frame buffer.old) result.chip result.answer buffer.new }
 {
-    entry_walk::whole(&chip);
-    let mut clocks = chip.clocks;
-    let numbers = chip.numbers;
-    let mut state = chip.state;
-    let registers = chip.registers;
-    let slots = chip.slots;
-    let latch = chip.latch;
-    let key = chip.key;
-    let eeprom = chip.eeprom;
-    let taken = event_frame_take::take(
-        &mut clocks,
-        &numbers,
-        &mut state,
-        &registers,
-        &slots,
-        &eeprom,
-        buffer,
-    );
-    let next = Chip {
-        clocks: clocks,
-        numbers: numbers,
-        state: state,
-        registers: registers,
-        slots: slots,
-        latch: latch,
-        key: key,
-        eeprom: eeprom,
-    };
+    let mut next = chip;
+    let taken = mfrc531_take(&mut next, buffer);
     Outcome {
         chip: next,
         answer: taken,
@@ -213,36 +86,8 @@ pub fn deliver(chip: Chip, bytes: &[u8], parities: &[u8], last_bits: u8) -> Outc
     ensures { let call = refusals_deliver bytes.now parities.now last_bits in
         Meets chip call result.chip result.answer [] }
 {
-    entry_walk::whole(&chip);
-    let mut clocks = chip.clocks;
-    let mut numbers = chip.numbers;
-    let mut state = chip.state;
-    let registers = chip.registers;
-    let mut slots = chip.slots;
-    let latch = chip.latch;
-    let key = chip.key;
-    let eeprom = chip.eeprom;
-    let delivered = event_frame_deliver::deliver(
-        &mut clocks,
-        &mut numbers,
-        &mut state,
-        &registers,
-        &mut slots,
-        &eeprom,
-        bytes,
-        parities,
-        last_bits,
-    );
-    let next = Chip {
-        clocks: clocks,
-        numbers: numbers,
-        state: state,
-        registers: registers,
-        slots: slots,
-        latch: latch,
-        key: key,
-        eeprom: eeprom,
-    };
+    let mut next = chip;
+    let delivered = mfrc531_deliver(&mut next, bytes, parities, last_bits);
     Outcome {
         chip: next,
         answer: delivered,
@@ -253,10 +98,5 @@ pub fn deliver(chip: Chip, bytes: &[u8], parities: &[u8], last_bits: u8) -> Outc
 pub fn lost_sum(chip: Chip) -> u32
     ensures { result ≡ lost_sum_of chip }
 {
-    entry_walk::whole(&chip);
-    let clocks = chip.clocks;
-    let numbers = chip.numbers;
-    let state = chip.state;
-    let eeprom = chip.eeprom;
-    query_lost_sum::lost_sum(&clocks, &numbers, &state, &eeprom)
+    mfrc531_lost_sum(&chip)
 }

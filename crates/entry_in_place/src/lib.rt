@@ -1,8 +1,7 @@
 // The functions of the C interface (manual 13.2): the six events on a chip that the caller lends, the sum of lost bytes, the profile check, the choice for
 // a safe start, and packs of profiles. `entry_in_place_c` gives each to C by its name; here they are a library, which `journal_runs` stands on.
 //
-// An event lends the chip's arrays where they lie to the event on the arrays, and answers its number. Nothing is copied. `whole` says for the proof what the
-// chip is by its types.
+// An event is lent the chip, and its answer or its refusal is given as the number that stands for it. `whole` says for the proof what the chip is by its types.
 
 #![tactic(auto)]
 
@@ -22,24 +21,14 @@ use edition::{Edition, MFRC531, RC530};
 use profile::check;
 use profile_choice::Choice;
 use profile_number::verdict_number;
-use state::Chip;
+use state::{Chip, Coded};
 
 // A start from an EEPROM image, whatever the chip was.
 pub fn mfrc531_start(chip: &mut Chip, image: &[u8]) -> u32
     ensures { Meets chip.old (start image.now) chip.new result [] }
 {
     entry_walk::whole(chip);
-    event_image_start::start(
-        &mut chip.clocks,
-        &mut chip.numbers,
-        &mut chip.state,
-        &mut chip.registers,
-        &mut chip.slots,
-        &mut chip.latch,
-        &mut chip.key,
-        &mut chip.eeprom,
-        image,
-    )
+    event_image_start::start(chip, image).code()
 }
 
 // A host read of an address.
@@ -47,15 +36,7 @@ pub fn mfrc531_read(chip: &mut Chip, address: u8) -> u32
     ensures { Meets chip.old (host_read address) chip.new result [] }
 {
     entry_walk::whole(chip);
-    event_host_read::host_read(
-        &chip.clocks,
-        &chip.numbers,
-        &mut chip.state,
-        &chip.registers,
-        &chip.slots,
-        &chip.eeprom,
-        address,
-    )
+    event_host_read::host_read(chip, address).code()
 }
 
 // A host write of a byte to an address.
@@ -63,18 +44,7 @@ pub fn mfrc531_write(chip: &mut Chip, address: u8, v: u8) -> u32
     ensures { Meets chip.old (host_write address v) chip.new result [] }
 {
     entry_walk::whole(chip);
-    event_host_write::host_write(
-        &mut chip.clocks,
-        &mut chip.numbers,
-        &mut chip.state,
-        &mut chip.registers,
-        &mut chip.slots,
-        &mut chip.latch,
-        &mut chip.key,
-        &chip.eeprom,
-        address,
-        v,
-    )
+    event_host_write::host_write(chip, address, v).code()
 }
 
 // An advance by clocks.
@@ -82,17 +52,7 @@ pub fn mfrc531_advance(chip: &mut Chip, clocks: u32) -> u32
     ensures { Meets chip.old (advance clocks) chip.new result [] }
 {
     entry_walk::whole(chip);
-    event_clock_advance::advance(
-        &mut chip.clocks,
-        &mut chip.numbers,
-        &mut chip.state,
-        &chip.registers,
-        &chip.slots,
-        &mut chip.latch,
-        &chip.key,
-        &mut chip.eeprom,
-        clocks,
-    )
+    event_clock_advance::advance(chip, clocks).code()
 }
 
 // A take of the frame that the chip sends, into a buffer.
@@ -101,15 +61,7 @@ pub fn mfrc531_take(chip: &mut Chip, buffer: &mut [u8]) -> u32
         Meets chip.old call chip.new result buffer.new }
 {
     entry_walk::whole(chip);
-    event_frame_take::take(
-        &mut chip.clocks,
-        &chip.numbers,
-        &mut chip.state,
-        &chip.registers,
-        &chip.slots,
-        &chip.eeprom,
-        buffer,
-    )
+    event_frame_take::take(chip, buffer).code()
 }
 
 // A delivery of a frame that the chip receives.
@@ -118,17 +70,7 @@ pub fn mfrc531_deliver(chip: &mut Chip, bytes: &[u8], parities: &[u8], last_bits
         Meets chip.old call chip.new result [] }
 {
     entry_walk::whole(chip);
-    event_frame_deliver::deliver(
-        &mut chip.clocks,
-        &mut chip.numbers,
-        &mut chip.state,
-        &chip.registers,
-        &mut chip.slots,
-        &chip.eeprom,
-        bytes,
-        parities,
-        last_bits,
-    )
+    event_frame_deliver::deliver(chip, bytes, parities, last_bits).code()
 }
 
 // The sum of lost bytes, of a chip that is lent to read.
@@ -136,7 +78,7 @@ pub fn mfrc531_lost_sum(chip: &Chip) -> u32
     ensures { result ≡ lost_sum_of chip.now }
 {
     entry_walk::whole(chip);
-    query_lost_sum::lost_sum(&chip.clocks, &chip.numbers, &chip.state, &chip.eeprom)
+    query_lost_sum::number(query_lost_sum::lost_sum(chip))
 }
 
 // The check of a start-up profile, for the edition that a number stands for.

@@ -1,4 +1,4 @@
-// What every chip is by its types, `Whole` (state, Meets), as a promise: the events on the arrays ask it of their callers, who cannot see how long an array is
+// What every chip is by its types, `Whole` (state, Meets), as a promise: the events ask it of their callers, who cannot see how long an array is
 // that a `&` or a `&mut` leads to. The functions here do nothing when they run, and each entry point calls `whole` before its event.
 
 #![tactic(auto)]
@@ -14,6 +14,11 @@ fn are_bytes(slice: &[u8])
     ensures { Bytes slice.now }
 {}
 
+// An array has as many elements as its type says.
+fn counted<T, const N: usize>(array: &[T; N])
+    ensures { length array.now ≡ N }
+{}
+
 // An array of bytes has bytes, as many as its type says.
 fn bytes<const N: usize>(array: &[u8; N])
     ensures count { length array.now ≡ N }
@@ -22,20 +27,12 @@ fn bytes<const N: usize>(array: &[u8; N])
     are_bytes(array);
 }
 
-fn two_clocks(clocks: &[u32; 2])
-    ensures { length clocks.now ≡ 2 }
-{}
-
-fn six_numbers(numbers: &[u16; 6])
-    ensures { length numbers.now ≡ 6 }
-{}
-
 // The arrays of any chip have their lengths, and those of bytes have bytes.
 pub fn whole(chip: &Chip)
     ensures { Whole chip.now }
 {
-    two_clocks(&chip.clocks);
-    six_numbers(&chip.numbers);
+    counted(&chip.clocks);
+    counted(&chip.numbers);
     bytes(&chip.state);
     bytes(&chip.registers);
     bytes(&chip.slots);

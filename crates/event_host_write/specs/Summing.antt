@@ -22,5 +22,5 @@ abbrev pub only_begins : ℕ → ℕ → ℕ → Bool
 only_begins v held left = eqb (v % 64) 0x12 && (eqb held 0 && eqb left 0)
 
 -- A function promises a turn where no programming clocks are left.
-abbrev pub TurnsUnprogrammed : (Machine → Machine) → (Chip → Chip) → (Chip → Chip) → Type 0
-TurnsUnprogrammed f before after = (c : Chip) → (core (before c)).left ≡ 0 → Sizes (before c) → Turned f (before c) (after c)
+abbrev pub TurnsUnprogrammed : (Machine → Machine) → Chip → Chip → Type 0
+TurnsUnprogrammed f before after = (core before).left ≡ 0 → Sizes before → Turned f before after

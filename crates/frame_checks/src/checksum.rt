@@ -2,16 +2,17 @@
 ghost use Rattle.std.specs.Prelude.{◌≡◌, List, ℕ, ◌≤◌, length, take};
 ghost use Rattle.machine.specs.State.{Machine};
 ghost use Rattle.machine.specs.Fifo.{register_at};
-ghost use Rattle.machine.specs.Frames.{crc_fails as frames_crc_fails, passed};
-ghost use Rattle.state.specs.View.{with_registers};
+ghost use Rattle.machine.specs.Frames.{crc_fails, passed};
 ghost use Rattle.state.specs.Turns.{Reads};
-ghost use Rattle.frame_checks.specs.Trailing.{trailing_crc as trailing_trailing_crc};
+ghost use Rattle.frame_checks.specs.Trailing.{trailing_crc};
+
+use state::Chip;
 
 // How many bytes at a frame's end are its checksum: 1 for CRC8, else 2; none where none is checked (22h bit 3), the frame is shorter than it or has
 // last bits.
 fn trailing_crc(redundancy: u8, count: usize, last_bits: u8) -> usize
     ensures counts { (m : Machine) (bytes : List ℕ) → register_at m 0x22 ≡ redundancy → length bytes ≡ count →
-        result ≡ trailing_trailing_crc m bytes last_bits }
+        result ≡ trailing_crc m bytes last_bits }
     ensures inside { result ≤ count }
 {
     let width = 2 - (redundancy / 16 % 2) as usize;
@@ -27,19 +28,11 @@ fn trailing_crc(redundancy: u8, count: usize, last_bits: u8) -> usize
     width
 }
 
-// A byte as a number of 16 bits.
-fn wide(byte: u8) -> u16
-    ensures { result ≡ byte }
-{
-    byte as u16
-}
-
 // CRCErr is set: a checksum is checked (22h bit 3) and is wrong, or the frame is shorter than it or has last bits.
-pub fn crc_fails(registers: &[u8; 32], bytes: &[u8], last_bits: u8) -> bool
-    ensures { let lent = with_registers registers.now in
-        Reads (λ m. frames_crc_fails m bytes.now last_bits) lent result }
+pub fn crc_fails(chip: &Chip, bytes: &[u8], last_bits: u8) -> bool
+    ensures { Reads (λ m. crc_fails m bytes.now last_bits) chip.now result }
 {
-    let redundancy = registers[0x22 - 0x10];
+    let redundancy = chip.registers[0x22 - 0x10];
     if redundancy / 8 % 2 != 1 {
         return false;
     }
@@ -48,26 +41,25 @@ pub fn crc_fails(registers: &[u8; 32], bytes: &[u8], last_bits: u8) -> bool
     if width == 0 {
         return true;
     }
-    let lsb = registers[0x23 - 0x10];
-    let msb = registers[0x24 - 0x10];
+    let lsb = chip.registers[0x23 - 0x10];
+    let msb = chip.registers[0x24 - 0x10];
     let end = count - width;
     let sum = crc::checksum(redundancy, lsb, msb, &bytes[..end]);
     if width == 1 {
-        return wide(bytes[end]) != sum;
+        return u16::from(bytes[end]) != sum;
     }
     let last = end + 1;
-    let low = wide(bytes[end]) == sum % 256;
-    let high = wide(bytes[last]) == sum / 256;
+    let low = u16::from(bytes[end]) == sum % 256;
+    let high = u16::from(bytes[last]) == sum / 256;
     !(low & high)
 }
 
 // How many bytes of a frame pass: all but its checksum.
-pub fn passed_length(registers: &[u8; 32], bytes: &[u8], last_bits: u8) -> usize
-    ensures passes { let lent = with_registers registers.now in
-        Reads (λ m. passed m bytes.now last_bits) lent (take result bytes.now) }
+pub fn passed_length(chip: &Chip, bytes: &[u8], last_bits: u8) -> usize
+    ensures passes { Reads (λ m. passed m bytes.now last_bits) chip.now (take result bytes.now) }
     ensures inside { result ≤ length bytes.now }
 {
-    let redundancy = registers[0x22 - 0x10];
+    let redundancy = chip.registers[0x22 - 0x10];
     let count = bytes.len();
     let width = trailing_crc(redundancy, count, last_bits);
     count - width

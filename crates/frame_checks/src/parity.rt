@@ -1,14 +1,12 @@
 // The parity of a frame received (manual 8.4).
-ghost use Rattle.std.specs.Prelude.{◌≡◌, not, cond, ◌+◌, ◌-◌, ◌%◌, eqb, take};
+ghost use Rattle.std.specs.Prelude.{◌≡◌, not, ◌+◌, ◌%◌, eqb};
 ghost use Rattle.std.specs.Int.Count.{ones};
+ghost use Rattle.std.specs.List.{list_any, zip};
 ghost use Rattle.bits.specs.Bits.{bit};
-ghost use Rattle.machine.specs.State.{Machine};
-ghost use Rattle.machine.specs.Fifo.{register_at};
-ghost use Rattle.machine.specs.Frames.{any_parity_wrong as frames_any_parity_wrong, parity_fails as frames_parity_fails};
-ghost use Rattle.state.specs.View.{with_registers};
+ghost use Rattle.machine.specs.Frames.{complete_bytes, parity_fails};
 ghost use Rattle.state.specs.Turns.{Reads};
 
-use frame_lengths::least;
+use state::Chip;
 
 // A byte's count of ones with its parity bit is not what ChannelRedundancy's bit 1 demands.
 fn parity_wrong(redundancy: u8, byte: u8, parity: u8) -> bool
@@ -18,44 +16,33 @@ fn parity_wrong(redundancy: u8, byte: u8, parity: u8) -> bool
     sum % 2 != (redundancy / 2 % 2) as u32
 }
 
-// One of the first `complete` bytes has a wrong parity bit.
-fn any_parity_wrong(redundancy: u8, bytes: &[u8], parities: &[u8], complete: usize) -> bool
-    ensures { let judged = take complete bytes.now in
-        ((m : Machine) → register_at m 0x22 ≡ redundancy → result ≡ frames_any_parity_wrong m judged parities.now) }
+// One of the bytes has a wrong parity bit.
+fn any_parity_wrong(redundancy: u8, bytes: &[u8], parities: &[u8]) -> bool
+    ensures { result ≡ list_any (λ pair. not (eqb ((ones pair.0 + pair.1) % 2) (bit redundancy 1))) (zip bytes.now parities.now) }
 {
-    let end = least(least(complete, bytes.len()), parities.len());
-    let mut i: usize = 0;
-    while i < end {
-        if parity_wrong(redundancy, bytes[i], parities[i]) {
-            return true;
-        }
-        i += 1;
-    }
-    false
+    bytes
+        .iter()
+        .zip(parities)
+        .any(|(byte, parity)| parity_wrong(redundancy, *byte, *parity))
 }
 
-// How many bytes of a frame are complete: with last bits, the last one is not.
-fn complete_count(count: usize, last_bits: u8) -> usize
-    ensures { result ≡ cond (eqb last_bits 0) count (count - 1) }
+// The bytes of a frame that are complete: with last bits, the last one is not.
+fn complete_bytes(bytes: &[u8], last_bits: u8) -> &[u8]
+    ensures { result.now ≡ complete_bytes bytes.now last_bits }
 {
     if last_bits == 0 {
-        return count;
+        return bytes;
     }
-    if count == 0 {
-        return 0;
-    }
-    count - 1
+    &bytes[..bytes.len().saturating_sub(1)]
 }
 
 // ParityErr is set: parity is checked (22h bit 0), and a complete byte's is wrong.
-pub fn parity_fails(registers: &[u8; 32], bytes: &[u8], parities: &[u8], last_bits: u8) -> bool
-    ensures { let lent = with_registers registers.now in
-        Reads (λ m. frames_parity_fails m bytes.now parities.now last_bits) lent result }
+pub fn parity_fails(chip: &Chip, bytes: &[u8], parities: &[u8], last_bits: u8) -> bool
+    ensures { Reads (λ m. parity_fails m bytes.now parities.now last_bits) chip.now result }
 {
-    let redundancy = registers[0x22 - 0x10];
+    let redundancy = chip.registers[0x22 - 0x10];
     if redundancy % 2 != 1 {
         return false;
     }
-    let complete = complete_count(bytes.len(), last_bits);
-    any_parity_wrong(redundancy, bytes, parities, complete)
+    any_parity_wrong(redundancy, complete_bytes(bytes, last_bits), parities)
 }

@@ -1,7 +1,7 @@
 -- Laws of the key format: reading what was stored gives the key, and storing what was read gives the bytes.
 -- Assumes nothing.
 use mathlib.Core.Path.{◌≡◌, refl, sym, ap, ◌∙◌}
-use mathlib.Core.Bool.{Bool, true, false, ◌&&◌, true≢false, false≢true}
+use mathlib.Core.Bool.{Bool, true, false, ◌&&◌, and_assoc}
 use mathlib.Core.List.{List, [], ◌∷◌, ◌++◌, append_assoc, append-nil}
 use Prim.Native.Nat.{ℕ, suc, ◌+◌, ◌-◌, ◌*◌, ◌/◌, ◌%◌, ◌<◌, ◌≤◌}
 use native.Mathlib.Omega.{arith}
@@ -10,7 +10,8 @@ use lib.ListN.{length, take, drop, get_or, set, length-set, drop_of_length-le}
 use lib.Seq.{drop-cons, take-suc-set, take_all}
 use borrow.Author.Tests.{eq-eqb, eqb-true}
 use Rattle.bits.specs.Bits.{Bytes}
-use Rattle.key.specs.Key.{stored_nibble, stored, paired, format_holds, key_of, empty_key}
+use Rattle.bits.proofs.Both.{each}
+use Rattle.key.specs.Key.{stored_nibble, stored, paired, format_holds, key_of}
 
 nibble_paired : (n : ℕ) → n < 16 → paired (stored_nibble n) ≡ true
 nibble_paired n h = eq-eqb (stored_nibble n) (stored_nibble (stored_nibble n % 16)) (omega arith)
@@ -29,29 +30,22 @@ read_stored (k ∷ ks) (h, w) =
     let e : stored_nibble (k / 16) % 16 * 16 + stored_nibble (k % 16) % 16 ≡ k = omega arith in
     ap (λ (b : ℕ). b ∷ key_of (stored ks)) e ∙ ap (λ (bs : List ℕ). k ∷ bs) (read_stored ks w)
 
-and_first : (a b : Bool) → (a && b) ≡ true → a ≡ true
-and_first true b h = refl
-and_first false b h = h
-
-and_second : (a b : Bool) → (a && b) ≡ true → b ≡ true
-and_second true b h = h
-and_second false b h = absurd (false≢true h)
-
 -- Storing what was read gives the bytes: where the format holds, the bytes are a stored key.
 pub store_read : (n : ℕ) (bs : List ℕ) → length bs ≡ 2 * n → format_holds bs ≡ true → stored (key_of bs) ≡ bs
 unfolding format_holds key_of stored
 store_read n [] even h = refl
 store_read n (u ∷ []) even h = absurd (omega (arith, even))
 store_read n (u ∷ l ∷ bs) even h =
-    let upper = eqb-true u (stored_nibble (u % 16)) (and_first (paired u) (paired l && format_holds bs) h) in
-    let rest = and_second (paired u) (paired l && format_holds bs) h in
-    let lower = eqb-true l (stored_nibble (l % 16)) (and_first (paired l) (format_holds bs) rest) in
+    let first = each (paired u) (paired l && format_holds bs) h in
+    let second = each (paired l) (format_holds bs) first.1 in
+    let upper = eqb-true u (stored_nibble (u % 16)) first.0 in
+    let lower = eqb-true l (stored_nibble (l % 16)) second.0 in
     let u-back : stored_nibble ((u % 16 * 16 + l % 16) / 16) ≡ u = omega (arith, upper) in
     let l-back : stored_nibble ((u % 16 * 16 + l % 16) % 16) ≡ l = omega (arith, lower) in
     let fewer : length bs ≡ 2 * (n - 1) = omega (arith, even) in
     ap (λ (x : ℕ). x ∷ stored_nibble ((u % 16 * 16 + l % 16) % 16) ∷ stored (key_of bs)) u-back
     ∙ ap (λ (x : ℕ). u ∷ x ∷ stored (key_of bs)) l-back
-    ∙ ap (λ (xs : List ℕ). u ∷ l ∷ xs) (store_read (n - 1) bs fewer (and_second (paired l) (format_holds bs) rest))
+    ∙ ap (λ (xs : List ℕ). u ∷ l ∷ xs) (store_read (n - 1) bs fewer second.1)
 
 -- The pair at 2 i is taken off the bytes that are left.
 pub next_pair : (bs : List ℕ) (i : ℕ) → 2 * i + 1 < length bs → drop (2 * i) bs ≡ get_or bs (2 * i) 0 ∷ get_or bs (2 * i + 1) 0 ∷ drop (2 * (i + 1)) bs
@@ -62,16 +56,6 @@ next_pair bs i h =
     ∙ ap (λ (n : ℕ). get_or bs (2 * i) 0 ∷ get_or bs (suc (2 * i)) 0 ∷ drop n bs) e
     ∙ ap (λ (n : ℕ). get_or bs (2 * i) 0 ∷ get_or bs n 0 ∷ drop (2 * (i + 1)) bs) (sym (add-one (2 * i)))
 
-both_hold : (a b rest : Bool) → (a && b) ≡ true → (a && (b && rest)) ≡ rest
-both_hold true true rest h = refl
-both_hold true false rest h = absurd (false≢true h)
-both_hold false b rest h = absurd (false≢true h)
-
-one_fails : (a b rest : Bool) → (a && b) ≡ false → (a && (b && rest)) ≡ false
-one_fails true true rest h = absurd (true≢false h)
-one_fails true false rest h = refl
-one_fails false b rest h = refl
-
 -- The first i pairs hold and have been read into bytes; what is left of the format and of the key is that of the other pairs.
 pub record ReadTo (i : ℕ) (bs bytes : List ℕ) : Type 0 where
   pub fits : i ≤ 6
@@ -79,15 +63,11 @@ pub record ReadTo (i : ℕ) (bs bytes : List ℕ) : Type 0 where
   pub holds : format_holds (drop (2 * i) bs) ≡ format_holds bs
   pub so_far : take i bytes ++ key_of (drop (2 * i) bs) ≡ key_of bs
 
--- No pair is read yet.
-pub read_none : (bs : List ℕ) → ReadTo 0 bs empty_key
-read_none bs = record { fits = omega arith; whole = refl; holds = refl; so_far = refl }
-
 -- A pair that holds is read.
-pub read_next : (i : ℕ) (bs bytes : List ℕ) → i < 6 → length bs ≡ 12 → ReadTo i bs bytes → (paired (get_or bs (2 * i) 0) && paired (get_or bs (2 * i + 1) 0)) ≡ true →
+pub read_next : (i : ℕ) (bs bytes : List ℕ) → i < 6 → length bs ≡ 12 → ReadTo i bs bytes → paired (get_or bs (2 * i) 0) ≡ true → paired (get_or bs (2 * i + 1) 0) ≡ true →
     ReadTo (i + 1) bs (set bytes i (get_or bs (2 * i) 0 % 16 * 16 + get_or bs (2 * i + 1) 0 % 16))
 unfolding format_holds key_of
-read_next i bs bytes h twelve r good =
+read_next i bs bytes h twelve r upper lower =
     let next = next_pair bs i (omega arith) in
     let v = get_or bs (2 * i) 0 % 16 * 16 + get_or bs (2 * i + 1) 0 % 16 in
     let left = key_of (drop (2 * (i + 1)) bs) in
@@ -95,7 +75,7 @@ read_next i bs bytes h twelve r good =
     record {
       fits = omega arith;
       whole = length-set bytes i _ ∙ r.whole;
-      holds = sym (ap format_holds next ∙ both_hold (paired (get_or bs (2 * i) 0)) (paired (get_or bs (2 * i + 1) 0)) (format_holds (drop (2 * (i + 1)) bs)) good) ∙ r.holds;
+      holds = sym (ap format_holds next ∙ simp (upper, lower)) ∙ r.holds;
       so_far =
           ap (λ (n : ℕ). take n (set bytes i v) ++ left) (add-one i)
           ∙ ap (λ (l : List ℕ). l ++ left) (take-suc-set bytes i v room)
@@ -104,12 +84,13 @@ read_next i bs bytes h twelve r good =
           ∙ r.so_far;
     }
 
--- A pair that does not hold breaks the format.
+-- A pair of which one byte does not hold breaks the format.
 pub read_bad : (i : ℕ) (bs bytes : List ℕ) → i < 6 → length bs ≡ 12 → ReadTo i bs bytes → (paired (get_or bs (2 * i) 0) && paired (get_or bs (2 * i + 1) 0)) ≡ false →
     format_holds bs ≡ false
 unfolding format_holds
 read_bad i bs bytes h twelve r bad =
-    sym r.holds ∙ ap format_holds (next_pair bs i (omega arith)) ∙ one_fails (paired (get_or bs (2 * i) 0)) (paired (get_or bs (2 * i + 1) 0)) (format_holds (drop (2 * (i + 1)) bs)) bad
+    let rest = format_holds (drop (2 * (i + 1)) bs) in
+    sym r.holds ∙ ap format_holds (next_pair bs i (omega arith)) ∙ sym (and_assoc _ _ rest) ∙ ap (λ (t : Bool). t && rest) bad
 
 -- All six pairs are read.
 pub read_all : (bs bytes : List ℕ) → length bs ≡ 12 → ReadTo 6 bs bytes → (format_holds bs ≡ true) × (key_of bs ≡ bytes)

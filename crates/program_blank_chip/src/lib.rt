@@ -12,23 +12,15 @@ use state::Chip;
 pub fn blank_chip() -> Chip
     ensures { result ≡ blank_blank_chip }
 {
-    let clocks = [0u32; 2];
-    let numbers = [0u16; 6];
-    let state = [0u8; 24];
-    let registers = [0u8; 32];
-    let slots = [0u8; 64];
-    let latch = [0u8; 16];
-    let key = [0u8; 6];
-    let eeprom = [0u8; 512];
     Chip {
-        clocks: clocks,
-        numbers: numbers,
-        state: state,
-        registers: registers,
-        slots: slots,
-        latch: latch,
-        key: key,
-        eeprom: eeprom,
+        clocks: [0; 2],
+        numbers: [0; 6],
+        state: [0; 24],
+        registers: [0; 32],
+        slots: [0; 64],
+        latch: [0; 16],
+        key: [0; 6],
+        eeprom: [0; 512],
     }
 }
 

@@ -22,16 +22,11 @@ const INTERRUPT_RQ: u8 = 0x07;
 
 // A chip that is started from an image of zeros behind its product type.
 fn started() -> Chip {
-    let image = blank_image();
-    let out = entry_by_value::start(blank_chip(), &image);
-    let chip = out.chip;
-    chip
+    entry_by_value::start(blank_chip(), &blank_image()).chip
 }
 
 fn written(chip: Chip, address: u8, v: u8) -> Chip {
-    let out = entry_by_value::host_write(chip, address, v);
-    let next = out.chip;
-    next
+    entry_by_value::host_write(chip, address, v).chip
 }
 
 // WriteE2, the address 16Ch low byte first, and the five bytes.
@@ -46,26 +41,17 @@ fn five_bytes_written(chip: Chip) -> Chip {
 
 // So many clocks, in one advance.
 fn advanced(chip: Chip, clocks: u32) -> Chip {
-    let out = entry_by_value::advance(chip, clocks);
-    let next = out.chip;
-    next
+    entry_by_value::advance(chip, clocks).chip
 }
 
 // The byte that a host read answers.
 fn read(chip: Chip, address: u8) -> u32 {
-    let out = entry_by_value::host_read(chip, address);
-    out.answer / 0x100
-}
-
-fn show_number(rt: &impl Print, before: &str, n: u32) -> io::Result<()> {
-    print!(rt; "{before}{n}")
+    entry_by_value::host_read(chip, address).answer / 0x100
 }
 
 // The EEPROM's bytes at 16Ch to 170h.
 fn show_eeprom(rt: &impl Print, chip: Chip) -> io::Result<()> {
-    let eeprom = chip.eeprom;
-    for i in 0x16C..0x171 {
-        let byte = eeprom[i];
+    for byte in &chip.eeprom[0x16C..0x171] {
         print!(rt; "   {byte:02x}")?;
     }
     Ok(())
@@ -73,12 +59,12 @@ fn show_eeprom(rt: &impl Print, chip: Chip) -> io::Result<()> {
 
 // A line of the table.
 fn show(rt: &impl Print, chip: Chip, clock: u32) -> io::Result<()> {
-    show_number(rt, "      ", read(chip, SECONDARY_STATUS) / 0x40 % 2)?;
-    show_number(rt, "     ", read(chip, INTERRUPT_RQ) / 0x10 % 2)?;
-    show_number(rt, "          ", read(chip, FIFO_LENGTH))?;
+    let ready = read(chip, SECONDARY_STATUS) / 0x40 % 2;
+    let tx = read(chip, INTERRUPT_RQ) / 0x10 % 2;
+    let held = read(chip, FIFO_LENGTH);
+    print!(rt; "      {ready}     {tx}          {held}")?;
     show_eeprom(rt, chip)?;
-    show_number(rt, " ", clock)?;
-    println!(rt; "")
+    println!(rt; " {clock}")
 }
 
 // A programming of 78,648 clocks: a line one clock before its end, and a line at its end.

@@ -18,9 +18,7 @@ const INTERRUPT_RQ: u8 = 0x07;
 pub fn set(chip: Chip, address: u8, v: u8) -> Chip
     ensures { LeadsBy (host_write address v ∷ []) chip result }
 {
-    let out = entry_by_value::host_write(chip, address, v);
-    let next = out.chip;
-    next
+    entry_by_value::host_write(chip, address, v).chip
 }
 
 // Every request is cleared, so that a line shows those of its own step.
@@ -34,9 +32,8 @@ fn cleared(chip: Chip) -> Chip
 fn shown(rt: &impl Print, out: Outcome, step: &[u8]) -> Chip
     ensures { result ≡ out.chip }
 {
-    let chip = out.chip;
-    table::line(rt, chip, out.answer, step);
-    chip
+    table::line(rt, out.chip, out.answer, step);
+    out.chip
 }
 
 // A start. Page is 80h after it, which shows page 0 at every address; it is set to 00h before the line, so that addresses are registers.
@@ -75,14 +72,11 @@ pub fn clocks(rt: &impl Print, chip: Chip, count: u32, step: &[u8]) -> Chip
 fn fed(out: Outcome, bytes: &[u8]) -> Outcome
     ensures { LeadsBy (map (host_write 0x02) bytes.now) out.chip result.chip }
 {
-    let mut chip = out.chip;
-    let mut answer = out.answer;
-    for i in 0..bytes.len() {
-        let step = entry_by_value::host_write(chip, FIFO_DATA, bytes[i]);
-        chip = step.chip;
-        answer = step.answer;
+    let mut last = out;
+    for byte in bytes {
+        last = entry_by_value::host_write(last.chip, FIFO_DATA, *byte);
     }
-    Outcome { chip, answer }
+    last
 }
 
 pub fn feed(rt: &impl Print, chip: Chip, bytes: &[u8], step: &[u8]) -> Chip

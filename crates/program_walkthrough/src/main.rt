@@ -138,8 +138,7 @@ fn keys(rt: &impl Print, chip: Chip) -> Chip {
         b"\x5A\xF0\x5A\xE1\x5A\xD2\x5A\xC3\x5A\xB4\x5A\xA5",
         b"LoadKey: KeyErr cleared; LoAlert, as more than 8 bytes were held on the way",
     );
-    let key = c.key;
-    table::bytes(rt, b"         the key:", &key);
+    table::bytes(rt, b"         the key:", &c.key);
     c = steps::command(
         rt,
         c,
@@ -217,8 +216,7 @@ fn write_e2(rt: &impl Print, chip: Chip) -> Chip {
         1,
         b"1 clock: A3h would go to 000h, so AccessErr, and it stays",
     );
-    let eeprom = c.eeprom;
-    let bytes = [eeprom[0x1FE], eeprom[0x1FF], eeprom[0x000]];
+    let bytes = [c.eeprom[0x1FE], c.eeprom[0x1FF], c.eeprom[0x000]];
     table::bytes(rt, b"         EEPROM 1FEh, 1FFh, 000h:", &bytes);
     c
 }
@@ -227,9 +225,7 @@ fn write_e2(rt: &impl Print, chip: Chip) -> Chip {
 fn refused(rt: &impl Print, chip: Chip, image: &[u8; 512]) -> Chip {
     let mut c = steps::read(rt, chip, 64, b"read address 64: refused");
     c = steps::write(rt, c, 64, 0x00, b"write address 64: refused");
-    let mut bytes = c.state;
-    bytes[PAGE] = 0x08;
-    c.state = bytes;
+    c.state[PAGE] = 0x08;
     c = steps::read(rt, c, 0x01, b"read Command of a malformed chip: refused");
     steps::start(rt, c, image, b"start of the malformed chip from the image")
 }
@@ -255,17 +251,14 @@ fn editions(rt: &impl Print, chip: Chip) {
     let other = made_as(0x88, 0xFE, 0x03);
     c = steps::start(rt, c, &other, b"start from an image of the MF RC530");
     c = product_type(rt, c);
-    let mut bytes = c.state;
-    bytes[EDITION] = 0;
-    c.state = bytes;
+    c.state[EDITION] = 0;
     c = steps::read(
         rt,
         c,
         0x01,
         b"read Command of a chip whose memory is of the other edition: refused",
     );
-    bytes[EDITION] = 2;
-    c.state = bytes;
+    c.state[EDITION] = 2;
     steps::read(
         rt,
         c,

@@ -3,36 +3,30 @@
 #![tactic(auto)]
 
 ghost use Rattle.std.specs.Prelude.{◌≡◌};
-ghost use Rattle.state.specs.declared.Chip.{Chip};
-ghost use Rattle.state.specs.Lent.{clocks_numbers_state_eeprom};
 ghost use Rattle.state.specs.Turns.{Sizes};
-ghost use Rattle.state.specs.LostSum.{coded_sum, lost_sum_of};
+ghost use Rattle.state.specs.LostSum.{lost_sum_of};
+ghost use Rattle.query_lost_sum.specs.Number.{sum_number};
 
-use state::LOST_SUM;
-use state_formed::{formed, of_own_edition, quick};
+use state::{Chip, LOST_SUM, Refusal};
+use state_formed::well_formed;
 
-// The sum in bits 23-8. That it has 16 bits is known of a parameter by value, and not of an element that is loaded.
-fn coded_sum(sum: u16) -> u32
-    ensures { result ≡ coded_sum sum }
+// The number that stands for an answer: the sum in bits 23-8, or the refusal.
+pub fn sum_number(sum: Result<u16, Refusal>) -> u32
+    ensures { result ≡ sum_number sum }
 {
-    0x100 * (sum as u32)
+    match sum {
+        Ok(sum) => 0x100 * sum as u32,
+        Err(refusal) => u32::from(refusal),
+    }
 }
 
-// The sum, or 7 where the chip is malformed. FIFOOvfl and the sum are not judged against each other.
-pub fn lost_sum<'a>(
-    clocks: &'a [u32; 2],
-    numbers: &'a [u16; 6],
-    state: &'a [u8; 24],
-    eeprom: &'a [u8; 512],
-) -> u32
-    ensures { let lent = clocks_numbers_state_eeprom clocks.now numbers.now state.now
-        eeprom.now in
-        ((c : Chip) → Sizes (lent c) → result ≡ lost_sum_of (lent c)) }
+// The sum. A malformed chip is refused; FIFOOvfl and the sum are not judged against each other.
+#[tactic(auto, unfolding(state::specs::LostSum::lost_sum_of, state::specs::View::view_of))]
+pub fn lost_sum(chip: &Chip) -> Result<u16, Refusal>
+    ensures { Sizes chip.now → sum_number result ≡ lost_sum_of chip.now }
 {
-    if !quick(clocks, numbers, state) || !of_own_edition(state, eeprom) {
-        if !formed(clocks, numbers, state, eeprom) {
-            return 7;
-        }
+    if !well_formed(chip) {
+        return Err(Refusal::Malformed);
     }
-    coded_sum(numbers[LOST_SUM])
+    Ok(chip.numbers[LOST_SUM])
 }

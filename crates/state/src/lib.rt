@@ -86,6 +86,32 @@ pub const VALUE: usize = 15;
 
 pub const BIT_FRAMING: usize = 16;
 
+// Values of the stage: a command's code in bits 5-0, and how far it is in bits 7-6. WriteE2 has its address with bit 6; Transmit and Transceive send with bit 6,
+// and Receive and Transceive receive with bit 7.
+pub const IDLE: u8 = 0x00;
+
+pub const WRITE_E2: u8 = 0x01;
+
+pub const WRITE_E2_ADDRESSED: u8 = 0x41;
+
+pub const READ_E2: u8 = 0x03;
+
+pub const LOAD_CONFIG: u8 = 0x07;
+
+pub const LOAD_KEY_E2: u8 = 0x0B;
+
+pub const CALC_CRC: u8 = 0x12;
+
+pub const LOAD_KEY: u8 = 0x19;
+
+pub const TRANSMIT: u8 = 0x5A;
+
+pub const RECEIVE: u8 = 0x96;
+
+pub const TRANSCEIVE_SENDING: u8 = 0x5E;
+
+pub const TRANSCEIVE_RECEIVING: u8 = 0x9E;
+
 // From the read to the write position, by wrapping subtract. That the two are bytes is known of parameters by value, and not of elements that are loaded.
 fn distance(read: u8, write: u8) -> u8
     ensures { Counts read write result }
@@ -140,7 +166,7 @@ impl Chip {
             return false;
         }
         let stage = self.state[STAGE];
-        (stage == 0x01) | (stage == 0x41)
+        (stage == WRITE_E2) | (stage == WRITE_E2_ADDRESSED)
     }
 
     // A frame waits to be taken: Transmit is active, or a Transceive that sends, and a byte is held.
@@ -148,7 +174,7 @@ impl Chip {
         ensures { Reads frames_frame_waits self.now result }
     {
         let stage = self.state[STAGE];
-        let sends = (stage == 0x5A) | (stage == 0x5E);
+        let sends = (stage == TRANSMIT) | (stage == TRANSCEIVE_SENDING);
         sends & (self.held() != 0)
     }
 
@@ -157,7 +183,7 @@ impl Chip {
         ensures { Reads (λ m. receiving m.command) self.now result }
     {
         let stage = self.state[STAGE];
-        (stage == 0x96) | (stage == 0x9E)
+        (stage == RECEIVE) | (stage == TRANSCEIVE_RECEIVING)
     }
 
     // Requests of a mask's bits 5-0 are set in InterruptRq. The byte is stored only where one is new: a store delays the next load of a word that holds it.
@@ -192,7 +218,7 @@ impl Chip {
         ensures { Turns commands_ended self.old self.new }
     {
         self.clocks[LEFT] = 0;
-        self.state[STAGE] = 0x00;
+        self.state[STAGE] = IDLE;
         self.requested(0x04);
     }
 }

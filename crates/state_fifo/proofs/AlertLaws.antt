@@ -1,22 +1,13 @@
 -- Laws of the alerts: those that are new make the requests that an event's end sets.
 -- Assumes nothing.
-use Rattle.std.proofs.Common.{◌≡◌, ℕ, ◌+◌, ◌-◌, ◌*◌, Bool, true, false, not, ◌&&◌, ◌||◌, leb, length, sym, refl, ap, ◌∙◌, arith, le-leb, leb-false, leb-true}
+use Rattle.std.proofs.Common.{◌≡◌, ℕ, ◌+◌, ◌-◌, ◌*◌, Bool, true, false, not, ◌&&◌, ◌||◌, leb, length, refl, ap, ◌∙◌}
 use mathlib.Core.Bool.{or-true, or-false}
 use lib.Bits.{bit_and}
-use borrow.Author.Tests.{lt-leb}
 use Rattle.machine.specs.State.{Machine, with_requests}
 use Rattle.machine.specs.Fifo.{water_level, lo_alert, hi_alert, alerted}
 use Rattle.machine.specs.Registers.{flag}
 use Rattle.state.specs.View.{raised}
 use Rattle.state_fifo.specs.Alerts.{alerts_of, alerted_from}
-
--- HiAlert's inequality, turned around.
-pub high_level : (held level : ℕ) → leb (64 - level) held ≡ leb (64 - held) level
-high_level held level = go (leb (64 - level) held) refl
-  where
-    go : (t : Bool) → leb (64 - level) held ≡ t → t ≡ leb (64 - held) level
-    go true is = sym (le-leb (64 - held) level (omega (arith, leb-true (64 - level) held is)))
-    go false is = sym (lt-leb (64 - held) level (omega (arith, leb-false (64 - level) held is)))
 
 -- The alerts that are new, as bits.
 fresh_bits : (hi lo hi' lo' : Bool) → bit_and (2 * flag hi' + flag lo') (255 - (2 * flag hi + flag lo)) ≡ 2 * flag (not hi && hi') + flag (not lo && lo')

@@ -15,15 +15,6 @@ unfolding offered_all lost_of
 lost_behind [] b m = omega arith
 lost_behind (x ∷ bs) b m = omega (arith, lost_behind bs b (offered x m))
 
--- None has been offered.
-pub offered_none : (bs : List ℕ) (m : Machine) → m ≡ offered_all (take 0 bs) m
-unfolding offered_all
-offered_none bs m = refl
-
-pub lost_none : (bs : List ℕ) (m : Machine) → 0 ≡ lost_of (take 0 bs) m
-unfolding lost_of
-lost_none bs m = refl
-
 -- As many as the first i and one more.
 one_further : (bs : List ℕ) (i : ℕ) → i < length bs → take i bs ++ (get_or bs i 0 ∷ []) ≡ take (i + 1) bs
 one_further bs i more = sym (take-suc bs i 0 more) ∙ ap (λ (n : ℕ). take n bs) (sym (add-one i))

@@ -5,17 +5,17 @@
 
 ghost use Rattle.std.specs.Prelude.{◌≡◌, ◌+◌, ◌-◌, ◌%◌, ◌≤◌, min, [], length, slice_index};
 ghost use Rattle.machine.specs.State.{with_held};
-ghost use Rattle.machine.specs.Fifo.{first_of, rest_of, one_lost as fifo_one_lost, lost_at, lost_of, alerted as fifo_alerted, offered as fifo_offered, offered_all as fifo_offered_all};
-ghost use Rattle.machine.specs.Commands.{argument as commands_argument, taken as commands_taken};
-ghost use Rattle.machine.specs.Registers.{flag as registers_flag};
+ghost use Rattle.machine.specs.Fifo.{first_of, rest_of, one_lost, lost_at, lost_of, alerted, offered, offered_all};
+ghost use Rattle.machine.specs.Commands.{argument, taken};
+ghost use Rattle.machine.specs.Registers.{flag};
 ghost use Rattle.state.specs.Turns.{Turns, TurnsLosing, Reads};
-ghost use Rattle.state_fifo.specs.Alerts.{alert_bits, alerts_of as alerts_alerts_of, alerted_from};
+ghost use Rattle.state_fifo.specs.Alerts.{alert_bits, alerts_of, alerted_from};
 
 use state::{Chip, LOST_SUM, READ, WRITE};
 
 // The byte at `k` of those held, the first to leave at 0; 0 where there are no more than `k`.
 pub fn argument(chip: &Chip, k: u8) -> u8
-    ensures { Reads (commands_argument k) chip.now result }
+    ensures { Reads (argument k) chip.now result }
 {
     if k < chip.held() {
         let slot = (std::num::wrapping_add_u8(chip.state[READ], k) % 64) as usize;
@@ -33,7 +33,7 @@ pub fn emptied(chip: &mut Chip)
 
 // The first `count` bytes leave, or all where fewer are held.
 pub fn taken(chip: &mut Chip, count: u8)
-    ensures { Turns (commands_taken count) chip.old chip.new }
+    ensures { Turns (taken count) chip.old chip.new }
 {
     if chip.held() <= count {
         emptied(chip);
@@ -51,7 +51,7 @@ fn one_more(sum: u16) -> u16
 
 // A byte is lost: FIFOOvfl is set, and the sum of lost bytes is one more.
 fn one_lost(chip: &mut Chip)
-    ensures { Turns fifo_one_lost chip.old chip.new }
+    ensures { Turns one_lost chip.old chip.new }
 {
     chip.failed(0x10);
     chip.numbers[LOST_SUM] = one_more(chip.numbers[LOST_SUM]);
@@ -59,7 +59,7 @@ fn one_lost(chip: &mut Chip)
 
 // A byte is offered: it is stored behind those held, or lost where 64 or more are held. Answers how many bytes were lost.
 pub fn offered(chip: &mut Chip, byte: u8) -> u8
-    ensures turns { TurnsLosing (fifo_offered byte) lost_at chip.old chip.new result }
+    ensures turns { TurnsLosing (offered byte) lost_at chip.old chip.new result }
     ensures small { result ≤ 1 }
 {
     if chip.held() >= 64 {
@@ -75,14 +75,12 @@ pub fn offered(chip: &mut Chip, byte: u8) -> u8
 
 // Bytes are offered in order. Answers how many were lost.
 pub fn offered_all(chip: &mut Chip, bytes: &[u8]) -> usize
-    ensures turns { TurnsLosing (fifo_offered_all bytes.now) (lost_of bytes.now) chip.old chip.new result }
+    ensures turns { TurnsLosing (offered_all bytes.now) (lost_of bytes.now) chip.old chip.new result }
     ensures small { result ≤ length bytes.now }
 {
     let mut lost: usize = 0;
-    let mut i: usize = 0;
-    while i < bytes.len() {
-        lost += offered(chip, bytes[i]) as usize;
-        i += 1;
+    for byte in bytes {
+        lost += offered(chip, *byte) as usize;
     }
     lost
 }
@@ -96,7 +94,7 @@ pub fn fifo_level(chip: &Chip) -> u8
 
 // A flag's number, 0 or 1.
 pub fn flag(set: bool) -> u8
-    ensures is { result ≡ registers_flag set }
+    ensures is { result ≡ flag set }
     ensures small { result ≤ 1 }
 {
     if set { 1 } else { 0 }
@@ -114,7 +112,7 @@ pub fn alerts(held: u8, level: u8) -> u8
 
 // The alerts of the chip as it is.
 pub fn alerts_of(chip: &Chip) -> u8
-    ensures is { Reads alerts_alerts_of chip.now result }
+    ensures is { Reads alerts_of chip.now result }
     ensures small { result ≤ 3 }
 {
     alerts(chip.held(), fifo_level(chip))
@@ -130,7 +128,7 @@ pub fn alerted(chip: &mut Chip, before: u8)
 // A read of FIFOData: the first byte leaves, and the alerts are judged; 0 where none is held.
 pub fn fifo_read(chip: &mut Chip) -> u8
     ensures reads { Reads (λ m. first_of m.held) chip.old result }
-    ensures turns { Turns (λ m. fifo_alerted m (with_held (rest_of m.held) m)) chip.old chip.new }
+    ensures turns { Turns (λ m. alerted m (with_held (rest_of m.held) m)) chip.old chip.new }
 {
     let count = chip.held();
     if count == 0 {
@@ -146,7 +144,7 @@ pub fn fifo_read(chip: &mut Chip) -> u8
 
 // A write of FIFOData where the byte waits: it is stored, or lost, and the alerts are judged. Answers how many bytes were lost.
 pub fn fifo_written(chip: &mut Chip, byte: u8) -> u8
-    ensures { TurnsLosing (λ m. fifo_alerted m (fifo_offered byte m)) lost_at chip.old chip.new result }
+    ensures { TurnsLosing (λ m. alerted m (offered byte m)) lost_at chip.old chip.new result }
 {
     let count = chip.held();
     if count >= 64 {

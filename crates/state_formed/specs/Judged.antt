@@ -9,14 +9,14 @@ use Rattle.state.specs.Turns.{Sizes}
 use Rattle.state.specs.declared.Chip.{Chip}
 use Rattle.state_clauses.specs.Clauses.{flags_formed, timer_fields_formed}
 
--- A function that reads fields: its answer is what a definition gives of them, whatever the arrays are that it is not lent.
-abbrev pub ReadsFields : (Core → Bool) → (Chip → Chip) → Bool → Type 0
-ReadsFields f lent r = (c : Chip) → r ≡ f (core (lent c))
+-- A function that reads fields: its answer is what a definition gives of them.
+abbrev pub ReadsFields : (Core → Bool) → Chip → Bool → Type 0
+ReadsFields f c r = r ≡ f (core c)
 
--- A function that judges: its answer is whether the chip is well formed, whatever the arrays are that it is not lent. A contract doesn't see how long
--- a lent array is, so this takes it from the caller.
-abbrev pub Judges : (Chip → Chip) → Bool → Type 0
-Judges lent r = (c : Chip) → Sizes (lent c) → r ≡ chip_formed (lent c)
+-- A function that judges: its answer is whether the chip is well formed. A contract doesn't see how long an array of a lent chip is, so this takes it from the
+-- caller.
+abbrev pub Judges : Chip → Bool → Type 0
+Judges c r = Sizes c → r ≡ chip_formed c
 
 -- The first eight bytes of state have 0 where they always read 0, Control is 0, and CRC8 is 0.
 abbrev pub first_clear : ℕ → ℕ → ℕ → ℕ → ℕ → ℕ → ℕ → ℕ → Bool

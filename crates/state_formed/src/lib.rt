@@ -1,9 +1,9 @@
 // Whether a chip is well formed: refusal 7, manual 10.3. Clocks, numbers, bytes of state and the first four of the memory decide it; the other arrays have their
 // sizes by their types.
 //
-// Every call of the chip judges it first. `quick` and `of_own_edition` pass the states that a host meets most of the time, by a few tests; `formed` judges every
-// clause. A host access and a clock advance ask the two themselves, and `formed` where they do not pass: a function of these would be too long for the
-// compiler to put into them, and would save registers at each call.
+// Every call of the chip judges it first, by `well_formed`. `quick` and `of_own_edition` pass the states that a host meets most of the time, by a few tests;
+// `formed` judges every clause, and is asked where they do not pass. `well_formed` is put into each caller, which the compiler would not do by itself: called, it
+// would save registers at each call.
 //
 // The clauses are functions of `state_clauses`. Tests are joined by `&`: to a proof this is the specification's own `&&`.
 
@@ -11,14 +11,13 @@
 
 ghost use Rattle.std.specs.Prelude.{◌+◌, ◌*◌, ◌^◌, ◌&&◌, ◌≡◌, eqb};
 ghost use Rattle.state.specs.View.{at};
-ghost use Rattle.state.specs.Lent.{clocks_state, clocks_numbers_state, clocks_numbers_state_eeprom};
 ghost use Rattle.state_clauses.specs.Clauses.{timer_fields_formed, edition_fields_formed};
 ghost use Rattle.state_formed.specs.Judged.{ReadsFields, Judges, first_clear, rests_with, usual_with, usual};
 
 use state::{
-    CONTROL, CRC_MODE, CRC_REGISTER, EDITION, ENABLES, ERRORS, KEY_LOADED, LATCHED, LEFT, NEXT,
-    PAGE, PHASE, POWER_DOWN, PRESCALER, REQUESTS, RUNNING, RX_LAST_BITS, STAGE, STAND_BY, VALUE,
-    held, modes_word,
+    CONTROL, CRC_MODE, CRC_REGISTER, Chip, EDITION, ENABLES, ERRORS, KEY_LOADED, LATCHED, LEFT,
+    NEXT, PAGE, PHASE, POWER_DOWN, PRESCALER, REQUESTS, RUNNING, RX_LAST_BITS, STAGE, STAND_BY,
+    VALUE, modes_word,
 };
 use state_clauses::{
     bits_formed, checksum_formed, edition_formed, flags_formed, modes_formed, pair, quad, room,
@@ -69,60 +68,64 @@ fn timer_kept(running: u8, value: u8, prescaler: u8, phase: u32) -> bool
 }
 
 // The memory is of the chip's edition.
-pub fn of_own_edition(state: &[u8; 24], eeprom: &[u8; 512]) -> bool
-    ensures { result ≡ edition_fields_formed (at state.now 11) eeprom.now }
+pub fn of_own_edition(chip: &Chip) -> bool
+    ensures { result ≡ edition_fields_formed (at chip.now.state 11) chip.now.eeprom }
 {
-    edition_formed(state[EDITION], eeprom[0], eeprom[1], eeprom[2], eeprom[3])
+    edition_formed(
+        chip.state[EDITION],
+        chip.eeprom[0],
+        chip.eeprom[1],
+        chip.eeprom[2],
+        chip.eeprom[3],
+    )
 }
 
 // The states that a host meets most of the time, but for the edition: Idle or CalcCRC rests, nothing is programmed, both power modes are off, every bit that
 // always reads 0 is 0, and CRC8 is 0. The next address and the word of the power modes are given by value: without their loads it is short enough for the
 // compiler to put it into a host access.
-fn passes(clocks: &[u32; 2], next: u16, modes: u32, state: &[u8; 24]) -> bool
-    ensures { let lent = clocks_state clocks.now state.now in
-        ReadsFields (usual_with next (eqb modes 0)) lent result }
+fn passes(chip: &Chip, next: u16, modes: u32) -> bool
+    ensures { ReadsFields (usual_with next (eqb modes 0)) chip.now result }
 {
     let bits = word(
-        state[PAGE],
-        state[CONTROL],
-        state[KEY_LOADED],
-        state[RX_LAST_BITS],
-        state[ENABLES],
-        state[CRC_MODE],
-        state[REQUESTS],
-        state[ERRORS],
+        chip.state[PAGE],
+        chip.state[CONTROL],
+        chip.state[KEY_LOADED],
+        chip.state[RX_LAST_BITS],
+        chip.state[ENABLES],
+        chip.state[CRC_MODE],
+        chip.state[REQUESTS],
+        chip.state[ERRORS],
     );
-    if none(bits, clocks[LEFT], modes) != 0 {
+    if none(bits, chip.clocks[LEFT], modes) != 0 {
         return false;
     }
     if next >= 0x200 {
         return false;
     }
-    if !rests(state[STAGE], held(state)) {
+    if !rests(chip.state[STAGE], chip.held()) {
         return false;
     }
     timer_kept(
-        state[RUNNING],
-        state[VALUE],
-        state[PRESCALER],
-        clocks[PHASE],
+        chip.state[RUNNING],
+        chip.state[VALUE],
+        chip.state[PRESCALER],
+        chip.clocks[PHASE],
     )
 }
 
 // The same, of the chip's own numbers.
-pub fn quick(clocks: &[u32; 2], numbers: &[u16; 6], state: &[u8; 24]) -> bool
-    ensures { let lent = clocks_numbers_state clocks.now numbers.now state.now in
-        ReadsFields usual lent result }
+pub fn quick(chip: &Chip) -> bool
+    ensures { ReadsFields usual chip.now result }
 {
-    let modes = modes_word(numbers[STAND_BY], numbers[POWER_DOWN]);
-    passes(clocks, numbers[NEXT], modes, state)
+    let modes = modes_word(chip.numbers[STAND_BY], chip.numbers[POWER_DOWN]);
+    passes(chip, chip.numbers[NEXT], modes)
 }
 
 // Every clause.
-pub fn formed(clocks: &[u32; 2], numbers: &[u16; 6], state: &[u8; 24], eeprom: &[u8; 512]) -> bool
-    ensures { let lent = clocks_numbers_state_eeprom clocks.now numbers.now state.now eeprom.now in
-        Judges lent result }
+pub fn formed(chip: &Chip) -> bool
+    ensures { Judges chip.now result }
 {
+    let state = &chip.state;
     let flags = flags_formed(
         state[KEY_LOADED],
         state[ENABLES],
@@ -134,17 +137,30 @@ pub fn formed(clocks: &[u32; 2], numbers: &[u16; 6], state: &[u8; 24], eeprom: &
         state[RUNNING],
         state[VALUE],
         state[PRESCALER],
-        clocks[PHASE],
+        chip.clocks[PHASE],
     );
-    let checksum = checksum_formed(numbers[CRC_REGISTER], state[CRC_MODE]);
-    let writing = writing_formed(state[STAGE], state[LATCHED], clocks[LEFT], numbers[NEXT]);
-    let fits = held(state) < room(state[STAGE], clocks[LEFT]);
+    let checksum = checksum_formed(chip.numbers[CRC_REGISTER], state[CRC_MODE]);
+    let writing = writing_formed(
+        state[STAGE],
+        state[LATCHED],
+        chip.clocks[LEFT],
+        chip.numbers[NEXT],
+    );
+    let fits = chip.held() < room(state[STAGE], chip.clocks[LEFT]);
     let modes = modes_formed(
         state[CONTROL],
-        numbers[STAND_BY],
-        numbers[POWER_DOWN],
-        clocks[LEFT],
+        chip.numbers[STAND_BY],
+        chip.numbers[POWER_DOWN],
+        chip.clocks[LEFT],
     );
-    let edition = of_own_edition(state, eeprom);
+    let edition = of_own_edition(chip);
     flags & (bits & (timer & (checksum & (writing & (fits & (modes & edition))))))
+}
+
+// Whether the chip is well formed, with the states that a host meets most of the time first.
+#[inline(always)]
+pub fn well_formed(chip: &Chip) -> bool
+    ensures { Judges chip.now result }
+{
+    (quick(chip) && of_own_edition(chip)) || formed(chip)
 }

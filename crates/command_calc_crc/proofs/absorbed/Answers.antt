@@ -1,6 +1,6 @@
 -- `command_calc_crc::absorbed` meets its contract: the held bytes that are left give the whole register. Assumes nothing.
 use borrow.Author.Rules.{rules}
-use mathlib.Core.Path.{refl, ap, ◌∙◌}
+use mathlib.Core.Path.{ap, ◌∙◌}
 use Prim.Native.Nat.{ℕ, ◌+◌}
 use lib.ListN.{drop}
 use Rattle.crc.specs.Checksum.{absorbed_all}
@@ -8,20 +8,14 @@ use Rattle.state.specs.View.{held_from}
 use Rattle.command_calc_crc.proofs.AbsorbLaws.{absorb_turn, all_absorbed}
 use Rattle.command_calc_crc.proofs.absorbed.Goals as goal
 
-pub loop-i-init : goal.loop-i-init
-loop-i-init c = (search rules, refl)
-
 pub loop-i-preserved : goal.loop-i-preserved
 loop-i-preserved c =
     let a = c.args in
-    let held = held_from a.slots.now a.position a.count in (
-      search rules,
-      ap (λ (n : ℕ). absorbed_all a.mode n (drop (c.loop-i.i + 1) held)) c.absorb-next.ensures
-          ∙ absorb_turn a.mode c.loop-i.next a.slots.now a.position a.count c.loop-i.i (search rules)
-          ∙ c.loop-i.invariant.1,
-    )
+    ap (λ (n : ℕ). absorbed_all a.mode n (drop (c.loop-i.i + 1) (held_from a.slots.now a.position a.count))) c.absorb-next.ensures
+    ∙ absorb_turn a.mode c.loop-i.next a.slots.now a.position a.count c.loop-i.i (search rules)
+    ∙ c.loop-i.invariant
 
 pub returns : goal.returns
 returns c =
     let a = c.args in
-    all_absorbed a.mode c.loop-i.next a.slots.now a.position a.count c.loop-i.i (search rules) c.loop-i.invariant.0 ∙ c.loop-i.invariant.1
+    all_absorbed a.mode c.loop-i.next a.slots.now a.position a.count c.loop-i.i (search rules) (search rules) ∙ c.loop-i.invariant

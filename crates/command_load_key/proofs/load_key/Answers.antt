@@ -1,36 +1,33 @@
 -- `command_load_key::load_key` meets its contract, by whether twelve bytes are held. Assumes nothing.
+use Prim.Native.Nat.{◌≤◌, min}
 use native.Mathlib.Omega.{arith}
-use mathlib.Core.Path.{◌∙◌}
+use mathlib.Core.Path.{◌≡◌, sym, ap, ◌∙◌}
 use Rattle.machine.specs.State.{LoadKey}
 use Rattle.machine.specs.Commands.{stepped_as}
-use Rattle.state.specs.View.{at, held_count, view, view_of, with_state}
-use Rattle.state.specs.Lent.{clocks_state_slots_key}
+use Rattle.state.specs.View.{at, held_count, held_from, view, view_of}
 use Rattle.state.proofs.RingLaws.{count_length}
 use Rattle.state.proofs.TurnLaws.{stays, then, becomes}
-use Rattle.command_load_key.specs.Lent.{state_key}
 use Rattle.command_arguments.proofs.ArgumentLaws.{too_few}
-use Rattle.command_load_key.proofs.CopyLaws.{held_first}
+use Rattle.command_arguments.proofs.HeldLaws.{held_first}
 use Rattle.command_load_key.proofs.KeyLaws.{step_held}
 use Rattle.command_load_key.proofs.load_key.Goals as goal
 
 pub returns-then-held-lt12 : goal.returns-then-held-lt12
 unfolding view_of
-returns-then-held-lt12 c chip sizes =
-    let a = c.args in
-    let old = clocks_state_slots_key a.clocks.now a.state.now a.slots.now a.key.now chip in
-    becomes (stepped_as LoadKey) (stays old sizes) (too_few 12 (view old) _ _ (count_length c.held.ensures a.slots.now) c.if-held-lt12.true)
+returns-then-held-lt12 c sizes =
+    let old = c.args.chip.now in
+    becomes (stepped_as LoadKey) (stays old sizes) (too_few 12 (view old) _ _ (count_length c.held.ensures old.slots) c.if-held-lt12.true)
 
 pub returns : goal.returns
 unfolding view_of
-returns c chip sizes =
-    let a = c.args in
-    let l = a.state.now in
-    let old = clocks_state_slots_key a.clocks.now l a.slots.now a.key.now chip in
-    let without = with_state c.taken.new.state old in
-    let loaded = state_key c.key_judged.new.state c.key_judged.new.key old in
-    let leave = c.taken.ensures old sizes in
-    let come = c.key_judged.ensures without leave.sizes in
+returns c sizes =
+    let old = c.args.chip.now in
+    let l = old.state in
+    let leave = c.taken.ensures sizes in
+    let come = c.key_judged.ensures leave.sizes in
     let p = c.held.ensures in
-    becomes (stepped_as LoadKey) (then {b = loaded} (then {d = loaded} leave come) (c.ended.ensures loaded come.sizes))
-    (step_held (view old) (count_length p a.slots.now) c.if-held-lt12.false _
-    (c.held_key-bytes.ensures ∙ held_first a.slots.now (at l 13) (held_count (at l 13) (at l 14)) 12 (omega (arith, p.counted, c.if-held-lt12.false))))
+    let enough : 12 ≤ c.held.result = c.if-held-lt12.false in
+    let twelve : 12 ≡ min (held_count (at l 13) (at l 14)) 12 = omega (arith, p.counted) in
+    becomes (stepped_as LoadKey) (then (then leave come) (c.ended.ensures come.sizes))
+    (step_held (view old) (count_length p old.slots) enough _
+    (c.held_key-bytes.ensures ∙ ap (held_from old.slots (at l 13)) twelve ∙ sym (held_first old.slots (at l 13) (held_count (at l 13) (at l 14)) 12)))

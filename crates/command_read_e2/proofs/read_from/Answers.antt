@@ -6,7 +6,6 @@ use mathlib.Core.Bool.{true, false}
 use Rattle.machine.specs.Commands.{readable, read_from}
 use Rattle.state.specs.View.{view, view_of}
 use Rattle.state.proofs.TurnLaws.{becomes}
-use Rattle.command_read_e2.specs.Reading.{numbers_state_slots_eeprom}
 use Rattle.command_read_e2.proofs.ReadLaws.{read_offers, read_loses, read_refuses, refused_loses_none}
 use Rattle.command_read_e2.proofs.read_from.Goals as goal
 
@@ -14,13 +13,11 @@ pub returns-then-count-address : goal.returns-then-count-address
 unfolding view_of
 returns-then-count-address c =
     let a = c.args in
+    let old = view a.chip.now in
     let is : readable a.address a.count ≡ true = search rules in record {
-      turns = λ chip sizes.
-          let old = numbers_state_slots_eeprom a.numbers.now a.state.now a.slots.now a.eeprom.now chip in
-          let (offers, lost) = c.offered_memory.ensures.turns chip sizes in (
-            becomes (read_from a.address a.count) offers (read_offers a.address a.count (view old) is),
-            lost ∙ read_loses a.address a.count (view old) is,
-          );
+      turns = λ sizes.
+          let (offers, lost) = c.offered_memory.ensures.turns sizes in
+          (becomes (read_from a.address a.count) offers (read_offers a.address a.count old is), lost ∙ read_loses a.address a.count old is);
       small = c.offered_memory.ensures.small;
     }
 
@@ -28,11 +25,8 @@ pub returns : goal.returns
 unfolding view_of
 returns c =
     let a = c.args in
+    let old = view a.chip.now in
     let is : readable a.address a.count ≡ false = search rules in record {
-      turns = λ chip sizes.
-          let old = numbers_state_slots_eeprom a.numbers.now a.state.now a.slots.now a.eeprom.now chip in (
-            becomes (read_from a.address a.count) (c.failed.ensures old sizes) (read_refuses a.address a.count (view old) is),
-            refused_loses_none a.address a.count (view old) is,
-          );
+      turns = λ sizes. (becomes (read_from a.address a.count) (c.failed.ensures sizes) (read_refuses a.address a.count old is), refused_loses_none a.address a.count old is);
       small = omega arith;
     }

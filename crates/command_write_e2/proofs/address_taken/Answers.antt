@@ -7,38 +7,37 @@ use Rattle.machine.specs.State.{addressing, ready}
 use Rattle.machine.specs.Memory.{address_of}
 use Rattle.machine.specs.Commands.{argument, write_stepped}
 use Rattle.state.specs.View.{view, view_of}
-use Rattle.state.specs.Lent.{clocks_numbers_state_slots}
 use Rattle.state.proofs.RingLaws.{count_length}
-use Rattle.state.proofs.TurnLaws.{stays, becomes}
+use Rattle.state.proofs.TurnLaws.{stays, then, becomes}
 use Rattle.command_arguments.proofs.ArgumentLaws.{too_few, all_held}
-use Rattle.command_write_e2.proofs.WriteLaws.{ready_agrees, write_turns}
+use Rattle.command_write_e2.proofs.WriteLaws.{ready_agrees, write_stored}
 use Rattle.command_write_e2.proofs.address_taken.Goals as goal
 
 pub returns-then-held-lt2 : goal.returns-then-held-lt2
 unfolding view_of
 returns-then-held-lt2 c =
-    let a = c.args in
-    let old = clocks_numbers_state_slots a.clocks.now a.numbers.now a.state.now a.slots.now in
-    let count = count_length c.held.ensures a.slots.now in record {
-      turns = λ chip sizes. becomes (write_stepped addressing) (stays (old chip) sizes) (too_few 2 (view (old chip)) _ _ count c.if-held-lt2.true);
-      next = λ chip sizes. too_few 2 (view (old chip)) _ _ count c.if-held-lt2.true;
+    let old = c.args.chip.now in
+    let count = count_length c.held.ensures old.slots in record {
+      turns = λ sizes. becomes (write_stepped addressing) (stays old sizes) (too_few 2 (view old) _ _ count c.if-held-lt2.true);
+      next = λ sizes. too_few 2 (view old) _ _ count c.if-held-lt2.true;
     }
 
 pub returns : goal.returns
 unfolding view_of
 returns c =
-    let a = c.args in
-    let x = c.address.result in
-    let old = clocks_numbers_state_slots a.clocks.now a.numbers.now a.state.now a.slots.now in
-    let count = count_length c.held.ensures a.slots.now in record {
-      turns = λ chip sizes.
-          let m = view (old chip) in
-          let is = c.address.ensures chip in
-          let near : x % 0x200 ≡ x = omega (arith, is) in
+    let old = c.args.chip.now in
+    let x = c.address-next.result in
+    let m = view old in
+    let is = c.address-next.ensures in
+    let near : x % 0x200 ≡ x = omega (arith, is) in
+    let count = count_length c.held.ensures old.slots in record {
+      turns = λ sizes.
+          let leaves = c.taken.ensures sizes in
+          let without = c.taken.new.chip in
           becomes (write_stepped addressing)
-          (write_turns a.clocks.now a.numbers.now a.state.now c.taken.new.state a.slots.now chip.latch chip.latch 0 x 0 2 chip
-          (ready (address_of (argument 0 m) (argument 1 m))) sizes sizes.latch_count (ap ready (near ∙ is)) (ready_agrees x (omega (arith, is))) c.taken.ensures)
+          (then leaves
+          (write_stored without without.latch 0 x 0 (ready (address_of (argument 0 m) (argument 1 m))) leaves.sizes leaves.sizes.latch_count (ap ready (near ∙ is)) (ready_agrees x (omega (arith, is)))))
           (all_held 2 m _ _ count c.if-held-lt2.false);
-      next = λ chip sizes.
-          get_or-set_same a.numbers.now 1 x 0 (omega (arith, sizes.number_count)) ∙ c.address.ensures chip ∙ all_held 2 (view (old chip)) _ _ count c.if-held-lt2.false;
+      next = λ sizes.
+          get_or-set_same c.taken.new.chip.numbers 1 x 0 (omega (arith, (c.taken.ensures sizes).sizes.number_count)) ∙ is ∙ all_held 2 m _ _ count c.if-held-lt2.false;
     }

@@ -10,8 +10,8 @@ returns c =
     record {
       sizes =
           record {
-            clock_count = c.two_clocks.ensures;
-            number_count = c.six_numbers.ensures;
+            clock_count = c.counted.ensures;
+            number_count = c.counted-2.ensures;
             state_count = c.bytes.ensures.count;
             register_count = c.bytes-2.ensures.count;
             slot_count = c.bytes-3.ensures.count;

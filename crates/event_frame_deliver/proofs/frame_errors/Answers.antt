@@ -5,6 +5,6 @@ use Rattle.machine.specs.Registers.{flag}
 use Rattle.event_frame_deliver.proofs.frame_errors.Goals as goal
 
 pub returns : goal.returns
-returns c chip =
-    let crc = c.flag-crc.ensures.is ∙ ap flag (c.crc_fails.ensures chip) in
-    let parity = c.flag-parity.ensures.is ∙ ap flag (c.parity_fails.ensures chip) in omega arith
+returns c =
+    let crc = c.flag-crc.ensures.is ∙ ap flag c.crc_fails.ensures in
+    let parity = c.flag-parity.ensures.is ∙ ap flag c.parity_fails.ensures in omega arith

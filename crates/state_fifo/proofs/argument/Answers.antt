@@ -8,8 +8,7 @@ use Rattle.state_fifo.proofs.argument.Goals as goal
 pub returns-then-k-held : goal.returns-then-k-held
 unfolding view_of
 returns-then-k-held c =
-    let start = c.before.before.before.before.before in
-    let a = start.args in
+    let a = c.args in
     let old = a.chip.now in
     let p = c.held.ensures in
     let read = at old.state 13 in

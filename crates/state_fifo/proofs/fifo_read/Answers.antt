@@ -25,24 +25,20 @@ returns-then-count-eq0 c =
 pub returns : goal.returns
 unfolding view_of
 returns c =
-    let second = c.before in
-    let first = second.before in
-    let moved = first.before.before in
-    let level = moved.fifo_level-level in
-    let past = moved.before.before.before in
-    let old = past.args.chip.now in
+    let level = c.fifo_level-level in
+    let old = c.args.chip.now in
     let l = old.state in
-    let p = past.held-count.ensures in
-    let n = past.held-count.result in
-    let some : 0 < n = omega (arith, past.if-count-eq0.false) in
-    let x = moved.wrapping_add_u8.result in
+    let p = c.held-count.ensures in
+    let n = c.held-count.result in
+    let some : 0 < n = omega (arith, c.if-count-eq0.false) in
+    let x = c.wrapping_add_u8.result in
     let held = held_of (at l 13) (at l 14) old.slots in
     let rest : Machine → Machine = λ m. with_held (rest_of m.held) m in record {
       reads = first_slot p some old.slots;
       turns = λ sizes.
           let leaves = set_byte rest l 13 x old (lit< tt) refl sizes
-          (ap (λ (h : List ℕ). with_held h (view old)) (ring_taken p old.slots 1 x (omega arith) moved.wrapping_add_u8.ensures.value ∙ drop_one held)) (λ bytes. refl) in
+          (ap (λ (h : List ℕ). with_held h (view old)) (ring_taken p old.slots 1 x (omega arith) c.wrapping_add_u8.ensures.value ∙ drop_one held)) (λ bytes. refl) in
           becomes (λ m. alerted m (rest m)) (then leaves (c.requested.ensures leaves.sizes))
-          (alerts_over (view old) (rest (view old)) n (n - 1) level.result first.alerts.result second.alerts-2.result level.ensures refl (count_length p old.slots)
-          (ap (λ (k : ℕ). k - 1) (count_length p old.slots) ∙ sym (length_rest held)) first.alerts.ensures.is second.alerts-2.ensures.is);
+          (alerts_over (view old) (rest (view old)) n (n - 1) level.result c.alerts.result c.alerts-2.result level.ensures refl (count_length p old.slots)
+          (ap (λ (k : ℕ). k - 1) (count_length p old.slots) ∙ sym (length_rest held)) c.alerts.ensures.is c.alerts-2.ensures.is);
     }

@@ -10,10 +10,9 @@ use Rattle.state_fifo.proofs.fifo_written.Goals as goal
 pub returns-then-count-ge64 : goal.returns-then-count-ge64
 unfolding view_of
 returns-then-count-ge64 c sizes =
-    let past = c.before.before.before in
-    let a = past.args in
+    let a = c.args in
     let old = a.chip.now in
-    let full : 64 ≤ length (view old).held = omega (arith, count_length past.held-count.ensures old.slots) in (
+    let full : 64 ≤ length (view old).held = omega (arith, count_length c.held-count.ensures old.slots) in (
       becomes (λ m. alerted m (offered a.byte m)) (c.one_lost.ensures sizes) (lost_quiet (view old) ∙ ap (alerted (view old)) (offer_lost a.byte (view old) full)),
       one_is_lost (view old) full,
     )
@@ -21,20 +20,16 @@ returns-then-count-ge64 c sizes =
 pub returns : goal.returns
 unfolding view_of
 returns c sizes =
-    let second = c.before in
-    let first = second.before in
-    let level = first.before.before in
-    let moved = level.before in
-    let past = moved.before.before.before in
-    let a = past.args in
+    let level = c.fifo_level-level in
+    let a = c.args in
     let old = a.chip.now in
-    let p = past.held-count.ensures in
+    let p = c.held-count.ensures in
     let count = count_length p old.slots in
-    let room : past.held-count.result < 64 = omega arith in
-    let stores = stored_byte old p room a.byte moved.wrapping_add_u8.result moved.wrapping_add_u8.ensures.value sizes in (
+    let room : c.held-count.result < 64 = omega arith in
+    let stores = stored_byte old p room a.byte c.wrapping_add_u8.result c.wrapping_add_u8.ensures.value sizes in (
       becomes (λ m. alerted m (offered a.byte m)) (then stores (c.requested.ensures stores.sizes))
-          (alerts_over (view old) (offered a.byte (view old)) past.held-count.result (past.held-count.result + 1) level.fifo_level-level.result first.alerts.result second.alerts-2.result
-          level.fifo_level-level.ensures (stored_registers a.byte (view old)) count
-          (stored_length a.byte (view old) past.held-count.result count room) first.alerts.ensures.is second.alerts-2.ensures.is),
+          (alerts_over (view old) (offered a.byte (view old)) c.held-count.result (c.held-count.result + 1) level.result c.alerts.result c.alerts-2.result
+          level.ensures (stored_registers a.byte (view old)) count
+          (stored_length a.byte (view old) c.held-count.result count room) c.alerts.ensures.is c.alerts-2.ensures.is),
       none_lost (view old) (omega (arith, count)),
     )

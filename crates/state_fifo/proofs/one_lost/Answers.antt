@@ -10,9 +10,8 @@ use Rattle.state_fifo.proofs.one_lost.Goals as goal
 pub returns : goal.returns
 unfolding view_of
 returns c sizes =
-    let fails = c.before.before in
-    let old = fails.args.chip.now in
+    let old = c.args.chip.now in
     let next = c.one_more.result in
-    let first = fails.failed.ensures sizes in
-    becomes one_lost (then first (set_number (with_lost_sum next) 2 next fails.failed.new.self (lit< tt) refl first.sizes refl))
+    let first = c.failed.ensures sizes in
+    becomes one_lost (then first (set_number (with_lost_sum next) 2 next c.failed.new.self (lit< tt) refl first.sizes refl))
     (ap (λ (n : ℕ). with_lost_sum n (with_fifo_ovfl true (view old))) (c.one_more.ensures ∙ ap (λ (m : Machine). min 65535 (m.lost_sum + 1)) first.machine))

@@ -2,8 +2,6 @@
 use Rattle.std.proofs.Common.{◌≡◌, refl, sym, ap, ◌∙◌, Bool, true, ◌&&◌, eqb, ltb}
 use borrow.Author.Tests.{eq-eqb, ne_eqb, lt-ltb, le-ltb}
 use Rattle.state.specs.View.{core, held_count}
-use Rattle.state.specs.Lent.{clocks_state}
-use Rattle.state.specs.declared.Chip.{Chip}
 use Rattle.state_clauses.specs.Clauses.{timer_fields_formed}
 use Rattle.state_formed.specs.Judged.{rests_with, usual_with}
 use Rattle.state_clauses.proofs.ByteLaws.{joined}
@@ -12,34 +10,34 @@ use Rattle.state_formed.proofs.passes.Goals.{After-none, After-rests}
 
 -- What the first test leaves to be asked.
 usually :
-    (c : After-none) (chip : Chip) {t : Bool} → let a = c.args in let k = core (clocks_state a.clocks.now a.state.now chip) in eqb c.none.result 0 ≡ t →
+    (c : After-none) {t : Bool} → let a = c.args in let k = core a.chip.now in eqb c.none.result 0 ≡ t →
     usual_with a.next (eqb a.modes 0) k
     ≡ (t && (ltb a.next 0x200 && (rests_with k.stage (held_count k.read k.write) && timer_fields_formed k.running k.value k.prescaler k.phase)))
-usually c chip is = joined (joined (sym c.word-bits.ensures) refl ∙ sym c.none.ensures ∙ is) refl
+usually c is = joined (joined (sym c.word-bits.ensures) refl ∙ sym c.none.ensures ∙ is) refl
 
 -- What the third does, where the first passes.
 resting :
-    (c : After-rests) (chip : Chip) {t : Bool} → let a = c.args in let k = core (clocks_state a.clocks.now a.state.now chip) in
+    (c : After-rests) {t : Bool} → let a = c.args in let k = core a.chip.now in
     usual_with a.next (eqb a.modes 0) k
     ≡ (true && (ltb a.next 0x200 && (rests_with k.stage (held_count k.read k.write) && timer_fields_formed k.running k.value k.prescaler k.phase))) →
     c.rests.result ≡ t → usual_with a.next (eqb a.modes 0) k ≡ (t && timer_fields_formed k.running k.value k.prescaler k.phase)
-resting c chip first is =
-    let k = core (clocks_state c.args.clocks.now c.args.state.now chip) in
+resting c first is =
+    let k = core c.args.chip.now in
     first ∙ joined (lt-ltb _ 0x200 c.if-next-ge512.false) (joined (ap (rests_with k.stage) (sym c.held.ensures.counted) ∙ sym c.rests.ensures ∙ is) refl)
 
 pub returns-then-none-ne0 : goal.returns-then-none-ne0
-returns-then-none-ne0 c chip = sym (usually (goal.at.returns-then-none-ne0 c).After-none chip (ne_eqb _ 0 c.if-none-ne0.true))
+returns-then-none-ne0 c = sym (usually (goal.at.returns-then-none-ne0 c).After-none (ne_eqb _ 0 c.if-none-ne0.true))
 
 pub returns-then-next-ge512 : goal.returns-then-next-ge512
-returns-then-next-ge512 c chip =
-    sym (usually (goal.at.returns-then-next-ge512 c).After-none chip (eq-eqb _ 0 c.if-none-ne0.false) ∙ joined (le-ltb _ 0x200 c.if-next-ge512.true) refl)
+returns-then-next-ge512 c =
+    sym (usually (goal.at.returns-then-next-ge512 c).After-none (eq-eqb _ 0 c.if-none-ne0.false) ∙ joined (le-ltb _ 0x200 c.if-next-ge512.true) refl)
 
 pub returns-then-not-rests : goal.returns-then-not-rests
-returns-then-not-rests c chip =
+returns-then-not-rests c =
     let at = goal.at.returns-then-not-rests c in
-    sym (resting at.After-rests chip (usually at.After-none chip (eq-eqb _ 0 c.if-none-ne0.false)) c.if-not-rests.true)
+    sym (resting at.After-rests (usually at.After-none (eq-eqb _ 0 c.if-none-ne0.false)) c.if-not-rests.true)
 
 pub returns : goal.returns
-returns c chip =
+returns c =
     let at = goal.at.returns c in
-    c.timer_kept.ensures ∙ sym (resting at.After-rests chip (usually at.After-none chip (eq-eqb _ 0 c.if-none-ne0.false)) c.if-not-rests.false)
+    c.timer_kept.ensures ∙ sym (resting at.After-rests (usually at.After-none (eq-eqb _ 0 c.if-none-ne0.false)) c.if-not-rests.false)

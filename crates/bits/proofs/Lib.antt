@@ -3,4 +3,3 @@ pub mod Below
 pub mod Both
 pub mod Bytes
 pub mod ConstantArms
-pub mod Xor

@@ -4,28 +4,26 @@ use mathlib.Core.Path.{◌≡◌, refl, ap, sym, ◌∙◌}
 use mathlib.Core.Bool.{Bool, true, false, cond}
 use mathlib.Core.List.{List, [], ◌∷◌, ◌++◌}
 use Prim.Native.Nat.{ℕ, zero, suc, ◌+◌, ◌-◌, ◌*◌, ◌/◌, ◌%◌, ◌^◌, ◌<◌, ◌≤◌}
-use native.Mathlib.Nat.{not-suc-le-zero, mul-one, div-add-mod', mod-lt}
+use native.Mathlib.Nat.{mul-one, div-add-mod', mod-lt}
 use native.Mathlib.Numerals.{add-one}
 use native.Mathlib.Omega.{arith}
 use lib.Bits.{bit_xor, xor_lt, xor_shr, xor_add_and, xor_shifted, shifted_half, shifted_even}
 use lib.Dec.{eqb}
-use lib.ListN.{length, drop, get_or}
+use lib.ListN.{length, drop, get_or, drop_of_length-le}
 use lib.Pow.{pow_pos}
-use lib.Seq.{drop-cons, drop-length}
-use Rattle.bits.proofs.Xor.{xor_assoc}
+use lib.Seq.{drop-cons}
+use Rattle.std.specs.Int.Bits.{xor_assoc}
 use Rattle.crc.specs.Checksum.{after_bit, after_bits, after_byte, after_bytes}
 
--- One bit is taken off the bits that are left.
-pub first_bit : (t n c : ℕ) → 0 < n → after_bits t (n - 1) (after_bit t c) ≡ after_bits t n c
+-- The bit after k of n is taken off the bits that are left.
+pub first_bit : (t n k c : ℕ) → k < n → after_bits t (n - (k + 1)) (after_bit t c) ≡ after_bits t (n - k) c
 unfolding after_bits
-first_bit t zero c h = absurd (not-suc-le-zero h)
-first_bit t (suc n) c h = let e : suc n - 1 ≡ n = omega arith in ap (λ (m : ℕ). after_bits t m (after_bit t c)) e
+first_bit t n k c h = let left : n - k ≡ suc (n - (k + 1)) = omega arith in rw left
 
 -- No bit is left.
-pub no_bit : (t n c : ℕ) → n ≤ 0 → after_bits t n c ≡ c
+pub no_bit : (t n k c : ℕ) → n ≤ k → after_bits t (n - k) c ≡ c
 unfolding after_bits
-no_bit t zero c h = refl
-no_bit t (suc n) c h = absurd (not-suc-le-zero h)
+no_bit t n k c h = let left : n - k ≡ 0 = omega arith in rw left
 
 -- One bit falls out of a register with bits h above its n + 1 lowest: the least bit decides whether the taps are added, and h only moves down.
 bit_out : (t n h c : ℕ) → after_bit t (bit_xor (h * 2 ^ suc n) c) ≡ bit_xor (h * 2 ^ n) (after_bit t c)
@@ -59,9 +57,9 @@ unfolding after_bytes
 next_byte t c bs i h = rw (add-one, drop-cons bs i 0)
 
 -- No byte is left.
-pub no_byte : (t c : ℕ) (bs : List ℕ) → after_bytes t c (drop (length bs) bs) ≡ c
+pub no_byte : (t c : ℕ) (bs : List ℕ) (i : ℕ) → length bs ≤ i → after_bytes t c (drop i bs) ≡ c
 unfolding after_bytes
-no_byte t c bs = rw drop-length
+no_byte t c bs i h = rw (drop_of_length-le bs {i = i} h)
 
 -- Bytes in two parts are absorbed one part after the other.
 pub in_parts : (t c : ℕ) (xs ys : List ℕ) → after_bytes t c (xs ++ ys) ≡ after_bytes t (after_bytes t c xs) ys

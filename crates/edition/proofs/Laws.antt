@@ -1,16 +1,15 @@
 -- Laws of an image's edition.
 -- Assumes nothing.
-use Prim.Native.Nat.{ℕ, ◌<◌, ◌≤◌}
+use Prim.Native.Nat.{ℕ, zero, suc, ◌<◌, ◌≤◌}
 use native.Mathlib.Omega.{arith}
 use mathlib.Core.Path.{◌≡◌, refl, sym, ap, ◌∙◌}
 use mathlib.Core.Bool.{Bool, true, false, cond, ◌||◌, false≢true}
 use mathlib.Core.List.{List}
 use lib.Dec.{ltb}
-use lib.ListN.{get_or, length, take, get_or-eq_default}
+use lib.ListN.{length, take, get_or-eq_default}
 use lib.Seq.{get_or-take}
-use borrow.Author.Tests.{ltb-true, ltb-false}
-use Rattle.edition.specs.Edition.{fixed_bits, is_of, of_either, edition_of}
-use Rattle.edition.specs.FixedBits.{fixed}
+use borrow.Author.Tests.{ltb-true, ltb-false, leb-true}
+use Rattle.edition.specs.Edition.{is_of, of_either, edition_of, is_number, numbered, number_of}
 use Rattle.edition.specs.declared.Edition.{Edition}
 use Rattle.edition.specs.declared.Edition.TheVariants.{Mfrc531, Rc530}
 
@@ -40,7 +39,13 @@ pub by_block_0 : (e : Edition) (image : List ℕ) → is_of e (take 0x10 image) 
 by_block_0 e image =
     rw (get_or-take 0x10 image 0 0 (omega arith), get_or-take 0x10 image 1 0 (omega arith), get_or-take 0x10 image 2 0 (omega arith), get_or-take 0x10 image 3 0 (omega arith))
 
--- Beyond the table's end no bit is fixed.
-pub beyond_table : (e : Edition) (position : ℕ) → 32 ≤ position → get_or (fixed_bits e) position (fixed 0x00 0x00) ≡ fixed 0x00 0x00
-beyond_table Mfrc531 position h = get_or-eq_default (fixed_bits Mfrc531) (fixed 0x00 0x00) h
-beyond_table Rc530 position h = get_or-eq_default (fixed_bits Rc530) (fixed 0x00 0x00) h
+-- The number that stands for an edition is one, and stands for that edition.
+pub own_number : (e : Edition) → (is_number (number_of e) ≡ true) × (numbered (number_of e) ≡ e)
+own_number Mfrc531 = (refl, refl)
+own_number Rc530 = (refl, refl)
+
+-- A number that stands for an edition is the only one that stands for it.
+pub only_number : (n : ℕ) → is_number n ≡ true → number_of (numbered n) ≡ n
+only_number zero h = refl
+only_number (suc zero) h = refl
+only_number (suc (suc n)) h = absurd (omega (arith, leb-true (suc (suc n)) 1 h))

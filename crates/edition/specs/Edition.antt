@@ -36,3 +36,8 @@ is_number n = leb n 1
 
 abbrev pub numbered : ℕ → Edition
 numbered n = cond (eqb n 1) Rc530 Mfrc531
+
+-- The number that stands for an edition.
+abbrev pub number_of : Edition → ℕ
+number_of Mfrc531 = 0
+number_of Rc530 = 1

@@ -4,11 +4,11 @@
 
 #![tactic(auto)]
 
-ghost use Rattle.std.specs.Prelude.{◌≡◌, [], ◌∷◌, get_or};
+ghost use Rattle.std.specs.Prelude.{◌≡◌, get_or, is_ok, is_some, IfErr, IfOk, IfSome};
 ghost use Rattle.edition.specs.FixedBits.{fixed};
-ghost use Rattle.edition.specs.Edition.{fixed_bits as edition_fixed_bits, is_of};
+ghost use Rattle.edition.specs.Edition.{fixed_bits, product_type, is_of, of_either, edition_of, is_number, numbered, number_of};
 
-#[derive(Clone, Copy)]
+#[derive(Clone, Copy, Debug, PartialEq, Eq)]
 pub enum Edition {
     Mfrc531,
     Rc530,
@@ -18,6 +18,37 @@ pub enum Edition {
 pub const MFRC531: u8 = 0;
 
 pub const RC530: u8 = 1;
+
+// A number that stands for no edition.
+#[derive(Clone, Copy, Debug, PartialEq, Eq)]
+pub struct UnknownEdition(pub u8);
+
+impl TryFrom<u8> for Edition {
+    type Error = UnknownEdition;
+
+    ghost try_from_gives = { λ number r. (is_ok r ≡ is_number number)
+        × IfOk r (λ edition. edition ≡ numbered number)
+        × IfErr r (λ unknown. unknown.0 ≡ number) };
+
+    fn try_from(number: u8) -> Result<Self, UnknownEdition> {
+        match number {
+            MFRC531 => Ok(Edition::Mfrc531),
+            RC530 => Ok(Edition::Rc530),
+            _ => Err(UnknownEdition(number)),
+        }
+    }
+}
+
+impl From<Edition> for u8 {
+    ghost from_gives = { λ edition number. number ≡ number_of edition };
+
+    fn from(edition: Edition) -> u8 {
+        match edition {
+            Edition::Mfrc531 => MFRC531,
+            Edition::Rc530 => RC530,
+        }
+    }
+}
 
 // The fixed bits of one register: a mask of them, and the value that they have.
 #[derive(Clone, Copy)]
@@ -96,7 +127,7 @@ const RC530_BITS: [FixedBits; 32] = [
 
 // The entry of an edition's table for a position; beyond its end no bit is fixed.
 pub fn fixed_bits(edition: Edition, position: usize) -> FixedBits
-    ensures { result ≡ get_or (edition_fixed_bits edition) position (fixed 0x00 0x00) }
+    ensures { result ≡ get_or (fixed_bits edition) position (fixed 0x00 0x00) }
 {
     if position >= 32 {
         return FixedBits(0x00, 0x00);
@@ -107,13 +138,13 @@ pub fn fixed_bits(edition: Edition, position: usize) -> FixedBits
     }
 }
 
-// Four bytes are an edition's product type.
-fn is_type(edition: Edition, a: u8, b: u8, c: u8, d: u8) -> bool
-    ensures { result ≡ is_of edition (a ∷ b ∷ c ∷ d ∷ []) }
+// An edition's product type.
+fn product_type(edition: Edition) -> [u8; 4]
+    ensures { result ≡ product_type edition }
 {
     match edition {
-        Edition::Mfrc531 => (d == 0x0F) & ((c == 0xFF) & ((b == 0xCC) & (a == 0x30))),
-        Edition::Rc530 => (d == 0x03) & ((c == 0xFE) & ((b == 0x88) & (a == 0x30))),
+        Edition::Mfrc531 => [0x30, 0xCC, 0xFF, 0x0F],
+        Edition::Rc530 => [0x30, 0x88, 0xFE, 0x03],
     }
 }
 
@@ -121,8 +152,21 @@ fn is_type(edition: Edition, a: u8, b: u8, c: u8, d: u8) -> bool
 pub fn is_of(edition: Edition, image: &[u8]) -> bool
     ensures { result ≡ is_of edition image.now }
 {
-    if image.len() < 4 {
-        return false;
+    image.starts_with(&product_type(edition))
+}
+
+impl Edition {
+    // The edition that an image is of, or None where it is of neither.
+    pub fn of(image: &[u8]) -> Option<Edition>
+        ensures either { is_some result ≡ of_either image.now }
+        ensures edition { IfSome result (λ edition. edition ≡ edition_of image.now) }
+    {
+        if is_of(Edition::Rc530, image) {
+            Some(Edition::Rc530)
+        } else if is_of(Edition::Mfrc531, image) {
+            Some(Edition::Mfrc531)
+        } else {
+            None
+        }
     }
-    is_type(edition, image[0], image[1], image[2], image[3])
 }

@@ -8,5 +8,5 @@ ghost use Rattle.std.specs.Prelude.{◌≡◌, ◌-◌};
 pub fn least(a: usize, b: usize) -> usize
     ensures { result ≡ a - (a - b) }
 {
-    if a < b { a } else { b }
+    a.min(b)
 }

@@ -12,7 +12,7 @@ use borrow.Fn.Kinds.{Dens, GoodsP}
 use borrow.Fn.Plain.{t_fn_plain}
 use contract.Lifetimes.{Lfts, Shares}
 use Rattle.bits.proofs.ConstantArms.{answered}
-use Rattle.bits.proofs.Xor.{xor_assoc}
+use Rattle.std.specs.Int.Bits.{xor_assoc}
 use Rattle.crc_table.specs.ShiftRegister.{after_bit, after_bits, taps16}
 use Rattle.crc_table.proofs.entry.Lts as lts
 use Rattle.crc_table.proofs.entry.Reads as reads

@@ -1,9 +1,0 @@
--- `crc::preset` meets its contract, by the mode bit CRC8. Assumes nothing.
-use borrow.Author.Tests.{eq-eqb, ne_eqb}
-use Rattle.crc.proofs.preset.Goals as goal
-
-pub returns-then-redundancy-eq1 : goal.returns-then-redundancy-eq1
-returns-then-redundancy-eq1 c = simp (eq-eqb _ _ c.if-redundancy-eq1.true)
-
-pub returns-else-redundancy-eq1 : goal.returns-else-redundancy-eq1
-returns-else-redundancy-eq1 c = simp (ne_eqb _ _ c.if-redundancy-eq1.false)

@@ -2,11 +2,11 @@
 -- Assumes nothing.
 use Prim.Native.Nat.{ℕ}
 use mathlib.Core.Path.{◌≡◌, refl, ap, ◌∙◌}
-use mathlib.Core.Bool.{Bool, true, false, cond}
+use mathlib.Core.Bool.{true}
 use mathlib.Core.List.{List, []}
-use mir.Val.{bool_byte}
 use lib.ListN.{length, set, replicate}
-use Rattle.edition.specs.Edition.{is_of, numbered}
+use Rattle.edition.specs.Edition.{edition_of, number_of}
+use Rattle.edition.proofs.Laws.{own_number}
 use Rattle.edition.specs.declared.Edition.{Edition}
 use Rattle.edition.specs.declared.Edition.TheVariants.{Mfrc531, Rc530}
 use Rattle.machine.specs.State.{with_edition}
@@ -20,12 +20,12 @@ use Rattle.state.specs.declared.Chip.{Chip}
 use Rattle.state.proofs.MeetLaws.{Done}
 
 -- Every element 0 but Page, ErrorFlag, the edition, the registers and the EEPROM.
-abbrev pub fresh : Bool → List ℕ → List ℕ → Chip
-fresh rc530 registers eeprom =
+abbrev pub fresh : ℕ → List ℕ → List ℕ → Chip
+fresh number registers eeprom =
     record {
       clocks = replicate 2 0;
       numbers = replicate 6 0;
-      state = set (set (set (replicate 24 0) 0 0x80) 7 0x40) 11 (bool_byte rc530);
+      state = set (set (set (replicate 24 0) 0 0x80) 7 0x40) 11 number;
       registers = registers;
       slots = replicate 64 0;
       latch = replicate 16 0;
@@ -33,26 +33,21 @@ fresh rc530 registers eeprom =
       eeprom = eeprom;
     }
 
--- The edition's number is that of the image's edition, and one that there is.
-edition_set : (rc530 : Bool) → numbered (bool_byte rc530) ≡ cond rc530 Rc530 Mfrc531
-edition_set true = refl
-edition_set false = refl
-
-fields_fresh : (rc530 : Bool) (registers eeprom : List ℕ) → fields_formed (fresh rc530 registers eeprom) ≡ true
+fields_fresh : (edition : Edition) (registers eeprom : List ℕ) → fields_formed (fresh (number_of edition) registers eeprom) ≡ true
 unfolding fields_formed
-fields_fresh true registers eeprom = refl
-fields_fresh false registers eeprom = refl
+fields_fresh Mfrc531 registers eeprom = refl
+fields_fresh Rc530 registers eeprom = refl
 
 -- With the image as its EEPROM, the registers that are loaded from it, and the number of the image's edition it is all that a start owes.
-pub fresh_done : (c : Chip) (rc530 : Bool) (image : List ℕ) → rc530 ≡ is_of Rc530 image → length image ≡ 512 →
-    Done c (start image) (fresh rc530 (over_registers 0 (replicate 32 0) (bytes_from image 0x10 32)) image) 0 []
+pub fresh_done : (c : Chip) (edition : Edition) (image : List ℕ) → edition ≡ edition_of image → length image ≡ 512 →
+    Done c (start image) (fresh (number_of edition) (over_registers 0 (replicate 32 0) (bytes_from image 0x10 32)) image) 0 []
 unfolding view_of held_from started
-fresh_done c rc530 image is whole =
+fresh_done c edition image is whole =
     record {
       answered = refl;
-      turned = ap (λ (e : Edition). with_edition e (started image)) (edition_set rc530 ∙ ap (λ (t : Bool). cond t Rc530 Mfrc531) is);
+      turned = ap (λ (e : Edition). with_edition e (started image)) ((own_number edition).1 ∙ is);
       lent = refl;
-      fields = fields_fresh rc530 (over_registers 0 (replicate 32 0) (bytes_from image 0x10 32)) image;
+      fields = fields_fresh edition (over_registers 0 (replicate 32 0) (bytes_from image 0x10 32)) image;
       sizes =
           record {
             clock_count = refl;

@@ -6,7 +6,7 @@ ghost use Rattle.std.specs.Prelude.{[]};
 ghost use Rattle.machine.specs.Refusals.{start};
 ghost use Rattle.state.specs.Answers.{PromisesAnswer, done_answer};
 
-use edition::{Edition, is_of};
+use edition::Edition;
 use register_load::load_registers;
 use state::{Chip, EDITION, ERRORS, PAGE, Refusal};
 
@@ -20,10 +20,9 @@ pub fn start(chip: &mut Chip, image: &[u8]) -> Result<(), Refusal>
     if image.len() != IMAGE_LENGTH {
         return Err(Refusal::ImageLength);
     }
-    let rc530 = is_of(Edition::Rc530, image);
-    if !(is_of(Edition::Mfrc531, image) | rc530) {
+    let Some(edition) = Edition::of(image) else {
         return Err(Refusal::ImageEdition);
-    }
+    };
     *chip = Chip {
         clocks: [0; 2],
         numbers: [0; 6],
@@ -36,7 +35,7 @@ pub fn start(chip: &mut Chip, image: &[u8]) -> Result<(), Refusal>
     };
     chip.state[PAGE] = 0x80;
     chip.state[ERRORS] = 0x40;
-    chip.state[EDITION] = rc530 as u8;
+    chip.state[EDITION] = u8::from(edition);
     chip.eeprom.copy_from_slice(image);
     load_registers(chip, 0x10);
     Ok(())

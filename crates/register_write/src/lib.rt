@@ -60,8 +60,8 @@ struct Mode {
 }
 
 impl Mode {
-    // The mode after a write to its bit. From off it takes hold, or waits for a programming. A mode that waits has no number. One with hold keeps its bit until it
-    // is left; by a 1 it keeps its hold, and by a 0 begins its leaving, if that has not begun.
+    // The mode after a write to its bit. From off it takes hold, or waits for a programming. One that waits goes on by a 1, and is off by a 0. One with hold keeps
+    // its bit until it is left: by a 1 it has hold and no leaving, and by a 0 its leaving begins, if it has not begun.
     fn written(self, bit: bool, programs: bool, begun: u16) -> Mode
         ensures { 0x8000 < begun → ModeWritten self bit programs begun result }
     {

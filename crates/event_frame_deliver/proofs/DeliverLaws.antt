@@ -1,22 +1,17 @@
 -- Laws of a delivery: what a frame does, by what the code judges of it, and that its bytes are bytes.
 -- Assumes nothing.
-use Prim.Native.Nat.{ℕ, ◌≤◌}
+use Prim.Native.Nat.{ℕ}
 use mathlib.Core.Path.{◌≡◌, refl, ap, ◌∙◌}
 use mathlib.Core.Bool.{Bool, true, false, or-true, or-false}
 use mathlib.Core.List.{List}
-use lib.Dec.{leb}
-use lib.ListN.{length}
-use borrow.Author.Tests.{leb-true}
 use Rattle.machine.specs.State.{Machine, with_rx_last_bits}
 use Rattle.machine.specs.Fifo.{offered_all, lost_of}
 use Rattle.machine.specs.Commands.{ended}
 use Rattle.machine.specs.Frames.{passed, crc_fails, parity_fails, with_frame_errors, rx_stopped, received, lost_receiving}
 use Rattle.machine.specs.Events.{delivered}
-use Rattle.machine.specs.Refusals.{frame_formed}
 use Rattle.machine.specs.Timer.{t_stop_rx, timer_stopped}
 use Rattle.machine.proofs.Cases.{either}
 use Rattle.machine.proofs.Lost.{lost_by_held}
-use Rattle.machine.proofs.WellFormed.Parts.{each}
 use Rattle.state.specs.View.{raised, marked}
 use Rattle.state_fifo.specs.Alerts.{alerts_of, alerted_from}
 use Rattle.state_fifo.proofs.AlertLaws.{alerted_from_lem}
@@ -48,10 +43,6 @@ unfolding lost_receiving
 frame_loses bytes last_bits m errors front passes =
     ap (λ (l : List ℕ). lost_of l (with_rx_last_bits last_bits (marked errors (rx_stopped m)))) passes
     ∙ lost_by_held (passed m bytes last_bits) (with_rx_last_bits last_bits (marked errors (rx_stopped m))) m (either (λ (x : Machine). x.held ≡ m.held) (t_stop_rx m) (timer_stopped m) m refl refl)
-
--- A formed frame has at most 64 bytes.
-pub few_bytes : (bytes parities : List ℕ) (last_bits : ℕ) → frame_formed bytes parities last_bits ≡ true → length bytes ≤ 64
-few_bytes bytes parities last_bits formed = leb-true (length bytes) 64 (each (leb (length bytes) 64) _ (each (leb 1 (length bytes)) _ formed).1).0
 
 -- A delivery, by the alerts before it.
 pub frame_delivered : (bytes parities : List ℕ) (last_bits : ℕ) (m : Machine) (before : ℕ) → before ≡ alerts_of m →

@@ -1,5 +1,5 @@
 -- `event_frame_deliver::deliver` meets its contract, by the refusals in their order. Assumes nothing.
-use Rattle.std.proofs.Common.{ℕ, true, false, not, [], refl, sym, ap, ◌∙◌, arith, rules, eq-eqb, ne_eqb}
+use Rattle.std.proofs.Common.{ℕ, true, false, not, [], refl, sym, ap, ◌∙◌, rules, eq-eqb, ne_eqb}
 use Rattle.machine.specs.Events as answer
 use Rattle.machine.specs.Refusals.{deliver}
 use Rattle.state.specs.View.{view}
@@ -8,14 +8,8 @@ use Rattle.state.proofs.TurnLaws.{then}
 use Rattle.state.proofs.MeetLaws.{refused, malformed, deliver_unformed, deliver_judged, own_fields_formed, accepted_here}
 use Rattle.state.proofs.PowerLaws.{stands_by_word}
 use Rattle.state.proofs.ByteLaws.{known_bytes}
-use Rattle.event_frame_deliver.proofs.DeliverLaws.{frame_delivered, few_bytes}
+use Rattle.event_frame_deliver.proofs.DeliverLaws.{frame_delivered}
 use Rattle.event_frame_deliver.proofs.deliver.Goals as goal
-
--- What is lost is at most the frame.
-pub overflow_cast-result : goal.overflow_cast-result
-overflow_cast-result c =
-    let a = c.args in
-    record { fits = omega (arith, c.received-lost.ensures.small, few_bytes a.bytes.now a.parities.now a.last_bits (sym c.if-not-frame_formed.ensures)) }
 
 pub returns-then-not-well_formed-clause-turns : goal.returns-then-not-well_formed-clause-turns
 returns-then-not-well_formed-clause-turns c whole =

@@ -24,9 +24,7 @@ absorb_turn mode next slots p n i h =
     ∙ next_byte (taps_of mode) next (held_from slots p n) i (omega (arith, held_length slots p n))
 
 pub all_absorbed : (mode next : ℕ) (slots : List ℕ) (p n i : ℕ) → n ≤ i → i ≤ n → next ≡ absorbed_all mode next (drop i (held_from slots p n))
-all_absorbed mode next slots p n i most least =
-    let whole : length (held_from slots p n) ≡ i = held_length slots p n ∙ omega arith in
-    sym (no_byte (taps_of mode) next (held_from slots p n)) ∙ ap (λ (k : ℕ). absorbed_all mode next (drop k (held_from slots p n))) whole
+all_absorbed mode next slots p n i most least = sym (no_byte (taps_of mode) next (held_from slots p n) i (omega (arith, held_length slots p n)))
 
 -- The held bytes are in the checksum, and held still.
 abbrev pub summed : Machine → Machine

@@ -78,7 +78,7 @@ pub fn mfrc531_lost_sum(chip: &Chip) -> u32
     ensures { result ≡ lost_sum_of chip.now }
 {
     entry_walk::whole(chip);
-    query_lost_sum::number(query_lost_sum::lost_sum(chip))
+    query_lost_sum::sum_number(query_lost_sum::lost_sum(chip))
 }
 
 // The check of a start-up profile, for the edition that a number stands for.

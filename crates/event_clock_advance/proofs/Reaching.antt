@@ -7,7 +7,7 @@ use Rattle.machine.specs.WellFormedness.{Formed}
 use Rattle.machine.specs.Events.{clocks}
 use Rattle.machine.proofs.WellFormed.Kept.{clocks_formed}
 use Rattle.machine.proofs.ManyClocks.Pieces.{in_parts}
-use Rattle.state.specs.View.{batch_start, core, view, view_of}
+use Rattle.state.specs.View.{batch_start, core, view, view_of, with_clocks, with_numbers, with_state, with_latch, with_eeprom}
 use Rattle.state.specs.Formed.{fields_formed}
 use Rattle.state.specs.Turns.{Sizes, Turned}
 use Rattle.state.specs.declared.Chip.{Chip}
@@ -24,12 +24,23 @@ pub record Runs (c : Chip) : Type 0 where
 pub entered : {c : Chip} → Sizes c → fields_formed c ≡ true → Formed (view c) → stands_still (view c) ≡ false → Runs c
 entered sizes formed well without = record { sizes = sizes; fields = formed; well = well; without = without }
 
+-- What clocks leave of a chip: its registers, its slots and its key.
+abbrev pub others : Chip → Chip → Chip
+others d old = with_clocks d.clocks (with_numbers d.numbers (with_state d.state (with_latch d.latch (with_eeprom d.eeprom old))))
+
+pub leaves : {x y old : Chip} → x ≡ y → y ≡ others y old → x ≡ others x old
+leaves {old = old} is left = subst (λ d. d ≡ others d old) (sym is) left
+
+pub leaves_then : {a b d : Chip} → b ≡ others b a → d ≡ others d b → d ≡ others d a
+leaves_then {d = d} first second = second ∙ ap (others d) first
+
 -- Of so many clocks the chip has had all but the rest; the loop knows how many the programming has left, and clocks reach it.
 pub record Turn (by rest left : ℕ) (old x : Chip) : Type 0 where
   pub within : rest ≤ by
   pub known : left ≡ (core x).left
   pub so_far : Runs old → Turned (clocks (by - rest)) old x
   pub runs : Runs old → stands_still (view x) ≡ false
+  pub left_be : x ≡ others x old
 
 module _ {by rest left : ℕ} {old x : Chip} (turn : Turn by rest left old x) (entry : Runs old) where
   pub runs_here : Runs x

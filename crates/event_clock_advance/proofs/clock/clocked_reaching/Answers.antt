@@ -1,20 +1,20 @@
 -- `event_clock_advance::clock::clocked_reaching` meets its contract: each turn of the loop takes the clocks up to the end of a programming. Where a mode takes hold
 -- there, the clocks left over do nothing.
 -- Assumes nothing.
-use Rattle.std.proofs.Common.{◌≡◌, ℕ, ◌+◌, ◌-◌, ◌≤◌, true, false, ◌||◌, take, refl, sym, ap, ◌∙◌, arith}
+use Rattle.std.proofs.Common.{◌≡◌, ℕ, ◌+◌, ◌-◌, ◌≤◌, true, false, ◌||◌, take, set, refl, sym, ap, ◌∙◌, arith}
 use Rattle.machine.specs.State.{Machine, Modes}
 use Rattle.machine.specs.Commands.{programs}
 use Rattle.machine.specs.Power.{has_hold, modes_clocked, stands_still}
 use Rattle.machine.specs.Events.{clocks}
 use Rattle.machine.proofs.ManyClocks.Pieces.{in_parts}
 use Rattle.machine.proofs.PowerModes.{in_hold_rests}
-use Rattle.state.specs.View.{batch_start, core, view, view_of}
+use Rattle.state.specs.View.{batch_start, core, view, view_of, with_clocks}
 use Rattle.state.specs.Turns.{Turned}
 use Rattle.state.specs.declared.Chip.{Chip}
 use Rattle.state.proofs.TurnLaws.{stays, then, becomes}
 use Rattle.event_clock_advance.proofs.BatchLaws.{is_idle, left_turns}
 use Rattle.event_clock_advance.proofs.ClockLaws.{piece_rests, piece_ends, piece_goes_on, modes_kept, ends_here, goes_past, still_left}
-use Rattle.event_clock_advance.proofs.Reaching.{Runs, entered, runs_here, further, all, is_run}
+use Rattle.event_clock_advance.proofs.Reaching.{Runs, entered, runs_here, further, all, is_run, others, leaves, leaves_then}
 use Rattle.event_clock_advance.proofs.clock.clocked_reaching.Goals as goal
 use Rattle.event_clock_advance.proofs.clock.clocked_reaching.Goals.{After-stands_still}
 
@@ -29,6 +29,7 @@ loop-chip-init c =
       known = refl;
       so_far = λ entry. becomes (clocks (by - by)) (stays old entry.sizes) (ap (λ (n : ℕ). clocks n (view old)) none);
       runs = λ entry. entry.without;
+      left_be = refl;
     }
 
 -- Behind the end of a programming, where it is asked whether a mode has hold.
@@ -42,6 +43,12 @@ module _ (c : After-stands_still) where
   -- the test of the loop
   ends : (c.loop-chip.left ≡ 0 → ⊥) × (c.loop-chip.left ≤ c.loop-chip.rest)
   ends = ends_here c.loop-chip.left c.loop-chip.rest (sym c.ends_within.ensures ∙ c.loop-chip-test.true)
+
+  -- what all clocks up to there have left
+  kept : after ≡ others after c.args.chip.now
+  kept =
+      leaves_then c.loop-chip.invariant.left_be
+      (leaves_then (leaves_then (leaves c.timer_clocked.ensures.rest refl) (leaves c.programmed.ensures.rest refl)) (leaves c.hold_taken.ensures.rest refl))
 
   module _ (entry : Runs c.args.chip.now) where
     -- the clocks up to the end, and the modes then
@@ -59,12 +66,12 @@ module _ (c : After-stands_still) where
         let ticks = c.timer_clocked.ensures.turns runs.sizes runs.fields runs.well in
         let stores = c.programmed.ensures.turns (still_left was runs.well c.timer_clocked.new.chip left ticks.machine (ap programs is)) ticks.sizes (ticks.fields runs.fields) in
         let stored = then ticks stores in
-        let kept : (view c.programmed.new.chip).status.modes ≡ was.status.modes =
+        let same : (view c.programmed.new.chip).status.modes ≡ was.status.modes =
         ap (λ (m : Machine). m.status.modes) stored.machine ∙ modes_kept was runs.well runs.without start left bytes is in
-        let without : stands_still (view c.programmed.new.chip) ≡ false = ap (λ (m : Modes). has_hold m.stand_by || has_hold m.power_down) kept ∙ runs.without in
+        let without : stands_still (view c.programmed.new.chip) ≡ false = ap (λ (m : Modes). has_hold m.stand_by || has_hold m.power_down) same ∙ runs.without in
         let holds = c.hold_taken.ensures.turns stored.sizes (stored.fields runs.fields) without in (
           becomes (clocks left) (then stored holds) (piece_ends was runs.well runs.without start left bytes is),
-          ap (λ (m : Machine). m.status.modes) holds.machine ∙ ap (modes_clocked true) kept,
+          ap (λ (m : Machine). m.status.modes) holds.machine ∙ ap (modes_clocked true) same,
         )
 
     -- the answer to that question
@@ -95,6 +102,9 @@ returns-then-stands_still-clause-turns c sizes formed well without =
     (sym (asked behind entry) ∙ c.if-stands_still.true)
     ∙ reached.machine))
 
+pub returns-then-stands_still-clause-rest : goal.returns-then-stands_still-clause-rest
+returns-then-stands_still-clause-rest c = kept (goal.at.returns-then-stands_still-clause-rest c).After-stands_still
+
 pub overflow_sub-rest : goal.overflow_sub-rest
 overflow_sub-rest c = omega (arith, (ends_here c.loop-chip.left c.loop-chip.rest (sym c.ends_within.ensures ∙ c.loop-chip-test.true)).1)
 
@@ -110,6 +120,7 @@ loop-chip-preserved c =
       known = refl;
       so_far = had behind;
       runs = λ entry. sym (asked behind entry) ∙ c.if-stands_still.false;
+      left_be = kept behind;
     }
 
 -- Behind the loop, after the clocks that are left: nothing is programmed.
@@ -125,6 +136,9 @@ returns-then-left-eq0-clause-turns c sizes formed well without =
     all turn entry
     (further turn entry rest (omega arith)
     (becomes (clocks rest) ticks (piece_rests (view x) runs.well runs.without rest (is_idle (core x) x.latch (sym turn.known ∙ c.if-left-eq0.true)))))
+
+pub returns-then-left-eq0-clause-rest : goal.returns-then-left-eq0-clause-rest
+returns-then-left-eq0-clause-rest c = leaves_then c.loop-chip.invariant.left_be (leaves c.timer_clocked-2.ensures.rest refl)
 
 -- The rest ends before the programming does.
 pub overflow_sub-chip : goal.overflow_sub-chip
@@ -149,3 +163,8 @@ returns-clause-turns c sizes formed well without =
     all turn entry
     (further turn entry rest (omega arith)
     (becomes (clocks rest) (then ticks counts) (piece_goes_on (view x) runs.well runs.without (batch_start k.next k.latched) left (take k.latched x.latch) is rest past)))
+
+pub returns-clause-rest : goal.returns-clause-rest
+returns-clause-rest c =
+    let left = set c.timer_clocked-2.new.chip.clocks 1 (c.loop-chip.left - c.loop-chip.rest) in
+    ap (with_clocks left) (leaves_then c.loop-chip.invariant.left_be (leaves c.timer_clocked-2.ensures.rest refl))

@@ -17,9 +17,9 @@ ghost use Rattle.state.specs.LostSum.{lost_sum_of};
 ghost use Rattle.profile_number.specs.Numbers.{profile_number};
 ghost use Rattle.entry_in_place.specs.Numbers.{judged_for, choice_number};
 
-use edition::{Edition, MFRC531, RC530};
+use edition::Edition;
 use profile::check;
-use profile_choice::{Choice, Refusal};
+use profile_choice::Choice;
 use profile_number::verdict_number;
 use state::{Chip, Coded};
 
@@ -85,16 +85,11 @@ pub fn mfrc531_lost_sum(chip: &Chip) -> u32
 pub fn mfrc531_check_profile(edition: u8, profile: &[u8]) -> u32
     ensures { result ≡ profile_number (judged_for edition profile.now) }
 {
-    if edition == MFRC531 {
-        return verdict_number(check(Edition::Mfrc531, profile));
+    match Edition::try_from(edition) {
+        Ok(edition) => verdict_number(check(edition, profile)),
+        Err(_) if profile.len() == 32 => u32::from(state::Refusal::Malformed),
+        Err(_) => verdict_number(Err(profile::Refusal::Length)),
     }
-    if edition == RC530 {
-        return verdict_number(check(Edition::Rc530, profile));
-    }
-    if profile.len() == 32 {
-        return 7;
-    }
-    9
 }
 
 // The choice for a safe start, from two images.
@@ -104,8 +99,7 @@ pub fn mfrc531_choose(user: &[u8], rescue: &[u8]) -> u32
     match profile_choice::choose(user, rescue) {
         Ok(Choice::User(_)) => 0x100,
         Ok(Choice::Rescue(_)) => 0x200,
-        Err(Refusal::ImageLength) => 2,
-        Err(Refusal::BothFail) => 8,
+        Err(refusal) => u32::from(refusal),
     }
 }
 

@@ -28,11 +28,11 @@ entered sizes formed well without = record { sizes = sizes; fields = formed; wel
 abbrev pub others : Chip → Chip → Chip
 others d old = with_clocks d.clocks (with_numbers d.numbers (with_state d.state (with_latch d.latch (with_eeprom d.eeprom old))))
 
-pub leaves : {x y old : Chip} → x ≡ y → y ≡ others y old → x ≡ others x old
-leaves {old = old} is left = subst (λ d. d ≡ others d old) (sym is) left
+pub leaves : (old : Chip) {x y : Chip} → x ≡ y → y ≡ others y old → x ≡ others x old
+leaves old is left = subst (λ d. d ≡ others d old) (sym is) left
 
-pub leaves_then : {a b d : Chip} → b ≡ others b a → d ≡ others d b → d ≡ others d a
-leaves_then {d = d} first second = second ∙ ap (others d) first
+pub leaves_then : (a b d : Chip) → b ≡ others b a → d ≡ others d b → d ≡ others d a
+leaves_then a b d first second = second ∙ ap (others d) first
 
 -- Of so many clocks the chip has had all but the rest; the loop knows how many the programming has left, and clocks reach it.
 pub record Turn (by rest left : ℕ) (old x : Chip) : Type 0 where

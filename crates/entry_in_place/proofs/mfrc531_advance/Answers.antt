@@ -1,5 +1,6 @@
--- What the event promises of every chip that is what its types say. Assumes nothing.
+-- The number of what the event promises of every chip that is what its types say. Assumes nothing.
+use Rattle.entry_in_place.proofs.NumberLaws.{numbered}
 use Rattle.entry_in_place.proofs.mfrc531_advance.Goals as goal
 
 pub returns : goal.returns
-returns c = (c.advance.ensures c.whole.ensures).0
+returns c = numbered c.advance.ensures.turns c.whole.ensures c.code.ensures

@@ -47,8 +47,12 @@ module _ (c : After-stands_still) where
   -- what all clocks up to there have left
   kept : after ≡ others after c.args.chip.now
   kept =
-      leaves_then c.loop-chip.invariant.left_be
-      (leaves_then (leaves_then (leaves c.timer_clocked.ensures.rest refl) (leaves c.programmed.ensures.rest refl)) (leaves c.hold_taken.ensures.rest refl))
+      let ticks = c.timer_clocked.new.chip in
+      let stores = c.programmed.new.chip in
+      leaves_then c.args.chip.now here after c.loop-chip.invariant.left_be
+      (leaves_then here stores after
+      (leaves_then here ticks stores (leaves here c.timer_clocked.ensures.rest refl) (leaves ticks c.programmed.ensures.rest refl))
+      (leaves stores c.hold_taken.ensures.rest refl))
 
   module _ (entry : Runs c.args.chip.now) where
     -- the clocks up to the end, and the modes then
@@ -138,7 +142,7 @@ returns-then-left-eq0-clause-turns c sizes formed well without =
     (becomes (clocks rest) ticks (piece_rests (view x) runs.well runs.without rest (is_idle (core x) x.latch (sym turn.known ∙ c.if-left-eq0.true)))))
 
 pub returns-then-left-eq0-clause-rest : goal.returns-then-left-eq0-clause-rest
-returns-then-left-eq0-clause-rest c = leaves_then c.loop-chip.invariant.left_be (leaves c.timer_clocked-2.ensures.rest refl)
+returns-then-left-eq0-clause-rest c = leaves_then c.args.chip.now c.loop-chip.chip c.timer_clocked-2.new.chip c.loop-chip.invariant.left_be (leaves c.loop-chip.chip c.timer_clocked-2.ensures.rest refl)
 
 -- The rest ends before the programming does.
 pub overflow_sub-chip : goal.overflow_sub-chip
@@ -167,4 +171,4 @@ returns-clause-turns c sizes formed well without =
 pub returns-clause-rest : goal.returns-clause-rest
 returns-clause-rest c =
     let left = set c.timer_clocked-2.new.chip.clocks 1 (c.loop-chip.left - c.loop-chip.rest) in
-    ap (with_clocks left) (leaves_then c.loop-chip.invariant.left_be (leaves c.timer_clocked-2.ensures.rest refl))
+    ap (with_clocks left) (leaves_then c.args.chip.now c.loop-chip.chip c.timer_clocked-2.new.chip c.loop-chip.invariant.left_be (leaves c.loop-chip.chip c.timer_clocked-2.ensures.rest refl))

@@ -5,7 +5,7 @@ use native.Mathlib.Omega.{arith}
 use mathlib.Core.Path.{◌≡◌, refl, sym, ap, ◌∙◌}
 use mathlib.Core.List.{List}
 use lib.Dec.{lit<}
-use lib.ListN.{length, get_or, drop, set}
+use lib.ListN.{get_or, drop, set}
 use Rattle.crc.specs.Checksum.{taps_of, absorbed, absorbed_all}
 use Rattle.crc.proofs.Laws.{next_byte, no_byte}
 use Rattle.machine.specs.State.{Machine, with_checksum}

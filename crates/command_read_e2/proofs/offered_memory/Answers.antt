@@ -33,5 +33,5 @@ loop-i-preserved c =
                 ∙ lost_next eeprom a.address i within old,
           ),
       let next = c.offered-lost.new.chip in
-      c.offered-lost.ensures.rest ∙ ap (λ (d : Chip). with_numbers next.numbers (with_state next.state (with_slots next.slots d))) c.loop-i.invariant.2,
+          c.offered-lost.ensures.rest ∙ ap (λ (d : Chip). with_numbers next.numbers (with_state next.state (with_slots next.slots d))) c.loop-i.invariant.2,
     )

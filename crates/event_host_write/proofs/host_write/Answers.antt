@@ -1,5 +1,5 @@
 -- `event_host_write::host_write` meets its contract, by the refusals in their order, and then by the way that the code takes. Assumes nothing.
-use Rattle.std.proofs.Common.{◌≡◌, Bool, refl, sym, ap, ◌∙◌, arith, lt-ltb}
+use Rattle.std.proofs.Common.{Bool, refl, sym, ap, ◌∙◌, arith, lt-ltb}
 use Rattle.machine.specs.Refusals.{host_write, refuse_if}
 use Rattle.state.specs.View.{view_of}
 use Rattle.state.specs.Meets.{Whole}

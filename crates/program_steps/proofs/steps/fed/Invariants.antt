@@ -3,5 +3,5 @@ use Rattle.state.specs.declared.Chip.{Chip}
 use Rattle.program_steps.proofs.LeadLaws.{FeedsFrom}
 use Rattle.program_steps.proofs.steps.fed.Given as goal
 
-abbrev pub invariant-loop-i : goal.invariant-loop-i
-invariant-loop-i l = (e : Chip) → FeedsFrom l.bytes l.i l.chip e → FeedsFrom l.bytes 0 l.initial.chip e
+abbrev pub invariant-loop-byte : goal.invariant-loop-byte
+invariant-loop-byte l = (e : Chip) → FeedsFrom l.bytes l.byte-index l.last.chip e → FeedsFrom l.bytes 0 l.fn.out.chip e

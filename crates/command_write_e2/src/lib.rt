@@ -12,7 +12,7 @@ ghost use Rattle.state.specs.Turns.{Sizes, Turns};
 ghost use Rattle.command_write_e2.specs.Next.{next_after};
 
 use command_arguments::{address, held_copied};
-use state::{Chip, LATCHED, LEFT, NEXT, READ, STAGE};
+use state::{Chip, LATCHED, LEFT, NEXT, READ, STAGE, WRITE_E2_ADDRESSED};
 use state_fifo::taken;
 
 // WriteE2 waits for its address: the first two held bytes are it.
@@ -29,7 +29,7 @@ pub fn address_taken(chip: &mut Chip)
     chip.numbers[NEXT] = next;
     chip.clocks[LEFT] = 0;
     chip.state[LATCHED] = 0;
-    chip.state[STAGE] = 0x41;
+    chip.state[STAGE] = WRITE_E2_ADDRESSED;
 }
 
 // How many of the held bytes are latched: as many as there are, or as there is room for before the end of the block.
@@ -69,7 +69,7 @@ pub fn bytes_latched(chip: &mut Chip)
     chip.numbers[NEXT] = (next + count as u16) % 0x200;
     chip.clocks[LEFT] = 78_648;
     chip.state[LATCHED] = count;
-    chip.state[STAGE] = 0x41;
+    chip.state[STAGE] = WRITE_E2_ADDRESSED;
     taken(chip, count);
 }
 

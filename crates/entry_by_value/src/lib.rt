@@ -4,7 +4,7 @@
 #![tactic(auto)]
 
 ghost use Rattle.std.specs.Prelude.{◌≡◌, []};
-ghost use Rattle.machine.specs.Refusals.{start as refusals_start, host_read as refusals_host_read, host_write as refusals_host_write, advance as refusals_advance, take_frame, deliver as refusals_deliver};
+ghost use Rattle.machine.specs.Refusals.{start, host_read, host_write, advance, take_frame, deliver};
 ghost use Rattle.state.specs.Meets.{Meets};
 ghost use Rattle.state.specs.LostSum.{lost_sum_of};
 
@@ -23,7 +23,7 @@ pub struct Outcome {
 
 // A start from an EEPROM image, whatever the chip was.
 pub fn start(chip: Chip, image: &[u8]) -> Outcome
-    ensures { Meets chip (refusals_start image.now) result.chip result.answer [] }
+    ensures { Meets chip (start image.now) result.chip result.answer [] }
 {
     let mut next = chip;
     let started = mfrc531_start(&mut next, image);
@@ -35,7 +35,7 @@ pub fn start(chip: Chip, image: &[u8]) -> Outcome
 
 // A host read of an address.
 pub fn host_read(chip: Chip, address: u8) -> Outcome
-    ensures { Meets chip (refusals_host_read address) result.chip result.answer [] }
+    ensures { Meets chip (host_read address) result.chip result.answer [] }
 {
     let mut next = chip;
     let read = mfrc531_read(&mut next, address);
@@ -47,7 +47,7 @@ pub fn host_read(chip: Chip, address: u8) -> Outcome
 
 // A host write of a byte to an address.
 pub fn host_write(chip: Chip, address: u8, v: u8) -> Outcome
-    ensures { Meets chip (refusals_host_write address v) result.chip result.answer [] }
+    ensures { Meets chip (host_write address v) result.chip result.answer [] }
 {
     let mut next = chip;
     let written = mfrc531_write(&mut next, address, v);
@@ -59,7 +59,7 @@ pub fn host_write(chip: Chip, address: u8, v: u8) -> Outcome
 
 // An advance by clocks.
 pub fn advance(chip: Chip, by: u32) -> Outcome
-    ensures { Meets chip (refusals_advance by) result.chip result.answer [] }
+    ensures { Meets chip (advance by) result.chip result.answer [] }
 {
     let mut next = chip;
     let advanced = mfrc531_advance(&mut next, by);
@@ -83,7 +83,7 @@ pub fn take(chip: Chip, buffer: &mut [u8]) -> Outcome
 
 // A delivery of a frame that the chip receives.
 pub fn deliver(chip: Chip, bytes: &[u8], parities: &[u8], last_bits: u8) -> Outcome
-    ensures { let call = refusals_deliver bytes.now parities.now last_bits in
+    ensures { let call = deliver bytes.now parities.now last_bits in
         Meets chip call result.chip result.answer [] }
 {
     let mut next = chip;

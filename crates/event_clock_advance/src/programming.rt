@@ -4,7 +4,7 @@ ghost use Rattle.state.specs.View.{at, with_clocks, with_eeprom, with_latch, wit
 ghost use Rattle.event_clock_advance.specs.Clock.{stored_wrapped, programming_ended, TurnsAgreeing};
 
 use command_write_e2::{batch_start, bytes_latched};
-use state::{Chip, LATCHED, LEFT, NEXT, STAGE};
+use state::{Chip, LATCHED, LEFT, NEXT, STAGE, WRITE_E2_ADDRESSED};
 
 // Stores the first latched bytes from an address on. An index is kept inside its array by a remainder.
 #[tactic(auto, unfolding(crate::specs::Clock::stored_wrapped))]
@@ -31,7 +31,7 @@ pub fn programmed(chip: &mut Chip)
     store_batch(&mut chip.eeprom, &chip.latch, start, latched);
     chip.clocks[LEFT] = 0;
     chip.state[LATCHED] = 0;
-    chip.state[STAGE] = 0x41;
+    chip.state[STAGE] = WRITE_E2_ADDRESSED;
     if waiting == 0 {
         chip.requested(0x10);
         return;

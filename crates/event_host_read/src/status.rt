@@ -5,7 +5,7 @@ ghost use Rattle.machine.specs.Registers.{modem_state, primary_status, secondary
 ghost use Rattle.state.specs.Turns.{Reads};
 ghost use Rattle.event_host_read.specs.Shown.{Shows};
 
-use state::{Chip, ENABLES, ERRORS, REQUESTS, RUNNING, RX_LAST_BITS, STAGE};
+use state::{Chip, ENABLES, ERRORS, REQUESTS, RUNNING, RX_LAST_BITS, STAGE, TRANSMIT};
 use state_fifo::{alerts_of, flag};
 
 // IRq: a request is also enabled.
@@ -29,7 +29,7 @@ fn modem_state(chip: &Chip) -> u8
     ensures is { Reads (λ m. 16 * modem_state m) chip.now result }
     ensures small { result ≤ 0x60 }
 {
-    if chip.state[STAGE] < 0x5A {
+    if chip.state[STAGE] < TRANSMIT {
         return 0x00;
     }
     if chip.receives() {

@@ -6,13 +6,13 @@
 #![tactic(auto)]
 
 ghost use Rattle.std.specs.Prelude.{◌≡◌, [], ◌+◌};
-ghost use Rattle.machine.specs.Fifo.{offered as fifo_offered, lost_at, alerted as fifo_alerted};
+ghost use Rattle.machine.specs.Fifo.{offered, lost_at, alerted};
 ghost use Rattle.machine.specs.Commands.{command_written, settled, lost_settling};
-ghost use Rattle.machine.specs.Refusals.{host_write as refusals_host_write};
+ghost use Rattle.machine.specs.Refusals.{host_write};
 ghost use Rattle.state.specs.View.{with_numbers, with_state};
 ghost use Rattle.state.specs.Turns.{Turns, TurnsLosing};
 ghost use Rattle.state.specs.Answers.{PromisesAnswer, lost_answer};
-ghost use Rattle.event_host_write.specs.Summing.{byte_summed, checksum_begun as summing_checksum_begun, only_begins, TurnsUnprogrammed};
+ghost use Rattle.event_host_write.specs.Summing.{byte_summed, checksum_begun, only_begins, TurnsUnprogrammed};
 
 use command_begin::{checksum_started, command_written};
 use command_work::worked;
@@ -38,7 +38,7 @@ fn checksum_fed(chip: &mut Chip, v: u8)
 
 // A byte is offered to the FIFO, the active command does what it can, and the alerts are judged. Answers how many bytes were lost.
 fn fifo_worked(chip: &mut Chip, v: u8) -> u8
-    ensures turns { TurnsLosing (λ m. fifo_alerted m (settled (fifo_offered v m))) (λ m. lost_at m + lost_settling (fifo_offered v m)) chip.old chip.new result }
+    ensures turns { TurnsLosing (λ m. alerted m (settled (offered v m))) (λ m. lost_at m + lost_settling (offered v m)) chip.old chip.new result }
     ensures rest { chip.new.eeprom ≡ chip.old.eeprom }
 {
     let before = alerts_of(chip);
@@ -57,7 +57,7 @@ fn begins_checksum(v: u8, held: u8, left: u32) -> bool
 
 // CalcCRC begins. No alert moves: neither the held bytes nor FIFOLevel change.
 fn checksum_begun(chip: &mut Chip)
-    ensures turns { TurnsUnprogrammed summing_checksum_begun chip.old chip.new }
+    ensures turns { TurnsUnprogrammed checksum_begun chip.old chip.new }
     ensures rest { chip.new ≡ with_numbers chip.new.numbers (with_state chip.new.state chip.old) }
 {
     chip.cleared(0x2A);
@@ -68,7 +68,7 @@ fn checksum_begun(chip: &mut Chip)
 // Command is written, the command that is active then does what it can with bytes that wait already, and the alerts are judged. Answers how many bytes were
 // lost.
 fn command_worked(chip: &mut Chip, v: u8) -> u8
-    ensures turns { TurnsLosing (λ m. fifo_alerted m (settled (command_written v m))) (λ m. lost_settling (command_written v m)) chip.old chip.new result }
+    ensures turns { TurnsLosing (λ m. alerted m (settled (command_written v m))) (λ m. lost_settling (command_written v m)) chip.old chip.new result }
     ensures rest { chip.new.eeprom ≡ chip.old.eeprom }
 {
     let before = alerts_of(chip);
@@ -81,7 +81,7 @@ fn command_worked(chip: &mut Chip, v: u8) -> u8
 // A host write: refusals in their order, and then the register. A byte written to FIFOData passes through where CalcCRC is active, which in a well-formed chip
 // holds none; it waits where Idle or a command that sends or receives is active; every other command may take it.
 pub fn host_write(chip: &mut Chip, address: u8, v: u8) -> Result<Lost, Refusal>
-    ensures turns { PromisesAnswer lost_answer chip.old (refusals_host_write address v) chip.new result [] }
+    ensures turns { PromisesAnswer lost_answer chip.old (host_write address v) chip.new result [] }
     ensures rest { chip.new.eeprom ≡ chip.old.eeprom }
 {
     if !well_formed(chip) {

@@ -3,10 +3,10 @@
 #![tactic(auto)]
 
 ghost use Rattle.std.specs.Prelude.{◌≡◌, ◌*◌, ◌<◌, ◌≤◌, length, MatchOption};
-ghost use Rattle.pack_order.specs.Order.{same as order_same};
+ghost use Rattle.pack_order.specs.Order.{same};
 ghost use Rattle.pack.specs.Layout.{trailer};
 ghost use Rattle.pack.specs.Outcome.{numbered, answered};
-ghost use Rattle.pack.specs.Read.{count_in, is_pack as read_is_pack, reading, name_in, body_in};
+ghost use Rattle.pack.specs.Read.{count_in, is_pack, reading, name_in, body_in};
 ghost use Rattle.pack_read.specs.Offsets.{offsets_from};
 ghost use Rattle.pack_read.specs.declared.ReadError.TheVariants.{NotAPack};
 
@@ -50,7 +50,7 @@ pub fn count(pack: &[u8]) -> usize
 // Twelve bytes are the trailer of a pack of so many profiles.
 fn is_trailer(bytes: &[u8], number: u32) -> bool
     requires { (length bytes.now ≡ 12) × (number ≤ 256) }
-    ensures { result ≡ order_same bytes.now (trailer number) }
+    ensures { result ≡ same bytes.now (trailer number) }
 {
     if !same(&bytes[0..4], &four_bytes(32 * number)) {
         return false;
@@ -78,7 +78,7 @@ fn has_offsets(index: &[u8], number: usize) -> bool
 
 // The bytes are a pack.
 pub fn is_pack(pack: &[u8]) -> bool
-    ensures { result ≡ read_is_pack pack.now }
+    ensures { result ≡ is_pack pack.now }
 {
     let number = count(pack);
     let index = 32 * number;

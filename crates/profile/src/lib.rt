@@ -5,7 +5,7 @@
 ghost use Rattle.std.specs.Prelude.{◌≡◌, ◌<◌, ◌≤◌, length};
 ghost use Rattle.profile.specs.Answer.{answer_of};
 ghost use Rattle.edition.specs.Edition.{fixed_bits};
-ghost use Rattle.profile.specs.Check.{differs_at, above_limit as check_above_limit, reload_refused as check_reload_refused, fixed_bits_judged, value_judged, judged};
+ghost use Rattle.profile.specs.Check.{differs_at, above_limit, reload_refused, fixed_bits_judged, value_judged, judged};
 
 use edition::{Edition, FixedBits, fixed_bits};
 
@@ -40,7 +40,7 @@ fn differs(fixed: FixedBits, byte: u8, bit: u8) -> bool
 
 // At the value's own register: it is above its limit.
 fn above_limit(own: u8, register: u8, value: u8, limit: u8) -> bool
-    ensures { result ≡ check_above_limit own register value limit }
+    ensures { result ≡ above_limit own register value limit }
 {
     if register == own {
         limit < value
@@ -51,7 +51,7 @@ fn above_limit(own: u8, register: u8, value: u8, limit: u8) -> bool
 
 // At TimerReload's address: the reload value is 0 while TStartTxBegin or TStartTxEnd is set.
 fn reload_refused(register: u8, control: u8, reload: u8) -> bool
-    ensures { result ≡ check_reload_refused register control reload }
+    ensures { result ≡ reload_refused register control reload }
 {
     if register != 0x2C {
         return false;

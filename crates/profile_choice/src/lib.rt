@@ -7,7 +7,7 @@ ghost use Rattle.std.specs.Prelude.{◌≡◌, true, false, length, MatchOption,
 ghost use Rattle.edition.specs.Edition.{fixed_bits};
 ghost use Rattle.profile.specs.Answer.{is_pass};
 ghost use Rattle.profile.specs.Check.{judged};
-ghost use Rattle.profile_choice.specs.Choice.{start_up_profile, passing, refused, chosen_of, profile_of, has_profile, part_of, chosen as choice_chosen};
+ghost use Rattle.profile_choice.specs.Choice.{start_up_profile, passing, refused, chosen_of, profile_of, has_profile, part_of, chosen};
 
 use edition::Edition;
 
@@ -59,8 +59,8 @@ fn passes(image: &[u8]) -> bool
 
 // The start-up profile that is chosen, or the refusal.
 pub fn choose<'a>(user: &'a [u8], rescue: &'a [u8]) -> Result<Choice<'a>, Refusal>
-    ensures whose { chosen_of result ≡ choice_chosen user.now rescue.now }
-    ensures part { profile_of result ≡ part_of (choice_chosen user.now rescue.now) user.now rescue.now }
+    ensures whose { chosen_of result ≡ chosen user.now rescue.now }
+    ensures part { profile_of result ≡ part_of (chosen user.now rescue.now) user.now rescue.now }
 {
     if user.len() != 512 || rescue.len() != 512 {
         return Err(Refusal::ImageLength);
@@ -76,7 +76,7 @@ pub fn choose<'a>(user: &'a [u8], rescue: &'a [u8]) -> Result<Choice<'a>, Refusa
 
 // The chosen profile alone, as a part of the image that it stands in.
 pub fn chosen<'a>(user: &'a [u8], rescue: &'a [u8]) -> Option<&'a [u8]>
-    ensures { let choice = choice_chosen user.now rescue.now in
+    ensures { let choice = chosen user.now rescue.now in
         MatchOption result (has_profile choice ≡ false) (λ profile. (has_profile choice ≡ true) × (profile.now ≡ part_of choice user.now rescue.now)) }
 {
     match choose(user, rescue) {

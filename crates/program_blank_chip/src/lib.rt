@@ -3,14 +3,14 @@
 #![tactic(auto)]
 
 ghost use Rattle.std.specs.Prelude.{◌≡◌};
-ghost use Rattle.program_blank_chip.specs.Blank.{blank_chip as blank_blank_chip, blank_image as blank_blank_image};
+ghost use Rattle.program_blank_chip.specs.Blank.{blank_chip, blank_image};
 
 use state::Chip;
 
 // Every number is 0. A start does not look at the chip, so any would do.
 
 pub fn blank_chip() -> Chip
-    ensures { result ≡ blank_blank_chip }
+    ensures { result ≡ blank_chip }
 {
     Chip {
         clocks: [0; 2],
@@ -26,7 +26,7 @@ pub fn blank_chip() -> Chip
 
 // The MFRC531's product type, and zeros behind it.
 pub fn blank_image() -> [u8; 512]
-    ensures { result ≡ blank_blank_image }
+    ensures { result ≡ blank_image }
 {
     let mut image = [0u8; 512];
     image[0] = 0x30;

@@ -1,7 +1,7 @@
 // The steps that the program makes: each makes its calls, prints their line, and hands the chip on. A contract says which calls, in order, with
 // every argument, and that the chip handed on is the one that they leave.
 ghost use Rattle.std.specs.Prelude.{[], ◌∷◌, map, ◌≡◌, replicate};
-ghost use Rattle.machine.specs.Refusals.{start as refusals_start, host_read, host_write, advance, take_frame, deliver as refusals_deliver};
+ghost use Rattle.machine.specs.Refusals.{start, host_read, host_write, advance, take_frame, deliver};
 ghost use Rattle.program_steps.specs.Leads.{LeadsBy};
 
 use crate::table;
@@ -38,7 +38,7 @@ fn shown(rt: &impl Print, out: Outcome, step: &[u8]) -> Chip
 
 // A start. Page is 80h after it, which shows page 0 at every address; it is set to 00h before the line, so that addresses are registers.
 pub fn start(rt: &impl Print, chip: Chip, image: &[u8], step: &[u8]) -> Chip
-    ensures { LeadsBy (refusals_start image.now ∷ host_write 0x00 0x00 ∷ []) chip result }
+    ensures { LeadsBy (start image.now ∷ host_write 0x00 0x00 ∷ []) chip result }
 {
     let out = entry_by_value::start(chip, image);
     let next = set(out.chip, 0x00, 0x00);
@@ -134,7 +134,7 @@ pub fn deliver(
     last_bits: u8,
     step: &[u8],
 ) -> Chip
-    ensures { let delivery = refusals_deliver bytes.now parities.now last_bits in
+    ensures { let delivery = deliver bytes.now parities.now last_bits in
         LeadsBy (host_write 0x07 0x3F ∷ delivery ∷ []) chip result }
 {
     shown(

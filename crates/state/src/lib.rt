@@ -8,9 +8,9 @@
 ghost use Rattle.std.specs.Prelude.{◌≡◌, ◌+◌, ◌*◌, ◌^◌};
 ghost use Rattle.state.specs.View.{raised, marked, unmarked, with_clocks, with_state};
 ghost use Rattle.state.specs.Turns.{Turns, Reads, Counts, Holds, ControlIs};
-ghost use Rattle.machine.specs.Commands.{programs as commands_programs, ended as commands_ended};
-ghost use Rattle.machine.specs.Frames.{receiving, frame_waits as frames_frame_waits};
-ghost use Rattle.machine.specs.Events.{lost as events_lost};
+ghost use Rattle.machine.specs.Commands.{programs, ended};
+ghost use Rattle.machine.specs.Frames.{receiving, frame_waits};
+ghost use Rattle.machine.specs.Events.{lost};
 ghost use Rattle.state.specs.Meets.{coded};
 
 mod answers;
@@ -144,10 +144,10 @@ pub fn control_byte(standby: bool, powerdown: bool) -> u8
 }
 
 // What a call answers that lost so many bytes: their number in bits 31-24.
-pub fn losing(lost: u8) -> u32
-    ensures { result ≡ coded (events_lost lost) }
+pub fn losing(count: u8) -> u32
+    ensures { result ≡ coded (lost count) }
 {
-    0x100_0000 * (lost as u32)
+    0x100_0000 * (count as u32)
 }
 
 impl Chip {
@@ -160,7 +160,7 @@ impl Chip {
 
     // A programming is there, running or standing still: WriteE2 is active, with its address or without, and clocks are left.
     pub fn programs(&self) -> bool
-        ensures { Reads (λ m. commands_programs m.command) self.now result }
+        ensures { Reads (λ m. programs m.command) self.now result }
     {
         if self.clocks[LEFT] == 0 {
             return false;
@@ -171,7 +171,7 @@ impl Chip {
 
     // A frame waits to be taken: Transmit is active, or a Transceive that sends, and a byte is held.
     pub fn frame_waits(&self) -> bool
-        ensures { Reads frames_frame_waits self.now result }
+        ensures { Reads frame_waits self.now result }
     {
         let stage = self.state[STAGE];
         let sends = (stage == TRANSMIT) | (stage == TRANSCEIVE_SENDING);
@@ -218,7 +218,7 @@ impl Chip {
 
     // The command ends: Idle, which programs nothing, and IdleIRq.
     pub fn ended(&mut self)
-        ensures turns { Turns commands_ended self.old self.new }
+        ensures turns { Turns ended self.old self.new }
         ensures rest { self.new ≡ with_clocks self.new.clocks (with_state self.new.state self.old) }
     {
         self.clocks[LEFT] = 0;

@@ -10,7 +10,10 @@ ghost use Rattle.machine.specs.WellFormed.{checksum_formed};
 ghost use Rattle.state_clauses.specs.Clauses.{named_formed, flags_formed, timer_fields_formed, programming_formed, mode_fields_formed, modes_fields_formed, room_of, edition_fields_formed};
 
 use edition::{MFRC531, RC530};
-use state::modes_word;
+use state::{
+    CALC_CRC, IDLE, LOAD_CONFIG, LOAD_KEY, LOAD_KEY_E2, READ_E2, RECEIVE, TRANSCEIVE_RECEIVING,
+    TRANSCEIVE_SENDING, TRANSMIT, WRITE_E2, WRITE_E2_ADDRESSED, modes_word,
+};
 use state_timer::period;
 
 // ErrorFlag, InterruptRq, InterruptEn and the key's flag have 0 where they always read 0: each byte has none of a mask's bits.
@@ -42,7 +45,7 @@ pub fn writing_formed(stage: u8, latched: u8, left: u32, next: u16) -> bool
     let count = latched as u32;
     let start = (next as u32 + 0x200 - count) % 0x200;
     let fits = (1 <= count) & ((count <= 16) & ((start % 16 + count <= 16) & (0x10 <= start)));
-    let writes = (stage == 0x01) | (stage == 0x41);
+    let writes = (stage == WRITE_E2) | (stage == WRITE_E2_ADDRESSED);
     (left <= 78_648) & (((0 < left) == (writes & fits)) & (next < 0x200))
 }
 
@@ -77,18 +80,18 @@ pub fn room(stage: u8, left: u32) -> u8
         return 65;
     }
     match stage {
-        0x00 => 65, // Idle
-        0x01 => 2, // WriteE2 without its address
-        0x41 => 1, // and with it
-        0x03 => 3, // ReadE2
-        0x07 => 2, // LoadConfig
-        0x0B => 2, // LoadKeyE2
-        0x12 => 1, // CalcCRC
-        0x19 => 12, // LoadKey
-        0x5A => 65, // Transmit
-        0x96 => 65, // Receive
-        0x5E => 65, // Transceive that sends
-        0x9E => 65, // and that receives
+        IDLE => 65,
+        WRITE_E2 => 2,
+        WRITE_E2_ADDRESSED => 1,
+        READ_E2 => 3,
+        LOAD_CONFIG => 2,
+        LOAD_KEY_E2 => 2,
+        CALC_CRC => 1,
+        LOAD_KEY => 12,
+        TRANSMIT => 65,
+        RECEIVE => 65,
+        TRANSCEIVE_SENDING => 65,
+        TRANSCEIVE_RECEIVING => 65,
         _ => 0,
     }
 }
@@ -102,6 +105,7 @@ pub fn timer_formed(running: u8, value: u8, prescaler: u8, phase: u32) -> bool
     (running <= 1) & (kept & ((running <= value) & (phase < period(prescaler))))
 }
 
+// Kept: the edition is a number here, and no `Edition`, since it is an element of the chip that C lends, and any byte may stand there.
 // The first four bytes of the memory are the product type of the edition that a number stands for. The four are one word, low byte first.
 pub fn edition_formed(number: u8, a: u8, b: u8, c: u8, d: u8) -> bool
     ensures { result ≡ edition_fields_formed number (a ∷ b ∷ c ∷ d ∷ []) }

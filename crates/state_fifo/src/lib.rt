@@ -3,13 +3,13 @@
 
 #![tactic(auto)]
 
-ghost use Rattle.std.specs.Prelude.{◌≡◌, ◌+◌, ◌-◌, ◌%◌, ◌≤◌, min, [], length, slice_index};
+ghost use Rattle.std.specs.Prelude.{◌≡◌, ◌+◌, ◌-◌, ◌%◌, ◌≤◌, min, [], length, slice_index, ℕ, ◌<◌};
 ghost use Rattle.machine.specs.State.{with_held};
 ghost use Rattle.machine.specs.Fifo.{first_of, rest_of, one_lost, lost_at, lost_of, alerted, offered, offered_all};
 ghost use Rattle.machine.specs.Commands.{argument, taken};
 ghost use Rattle.machine.specs.Registers.{flag};
 ghost use Rattle.state.specs.View.{with_numbers, with_slots, with_state};
-ghost use Rattle.state.specs.Turns.{Turns, TurnsLosing, Reads};
+ghost use Rattle.state.specs.Turns.{Turns, TurnsLosing, Reads, Holds};
 ghost use Rattle.state_fifo.specs.Alerts.{alert_bits, alerts_of, alerted_from};
 
 use state::{Chip, LOST_SUM, READ, WRITE};
@@ -54,6 +54,17 @@ fn one_lost(chip: &mut Chip)
     chip.numbers[LOST_SUM] = chip.numbers[LOST_SUM].saturating_add(1);
 }
 
+// A byte is stored behind those held, which are fewer than 64.
+fn stored(chip: &mut Chip, byte: u8)
+    ensures turns { (n : ℕ) → Holds chip.old.state n → n < 64 → Turns (offered byte) chip.old chip.new }
+    ensures rest { chip.new ≡ with_state chip.new.state (with_slots chip.new.slots chip.old) }
+{
+    let write = chip.state[WRITE];
+    let slot = (write % 64) as usize;
+    chip.slots[slot] = byte;
+    chip.state[WRITE] = write.wrapping_add(1);
+}
+
 // A byte is offered: it is stored behind those held, or lost where 64 or more are held. Answers how many bytes were lost.
 pub fn offered(chip: &mut Chip, byte: u8) -> u8
     ensures turns { TurnsLosing (offered byte) lost_at chip.old chip.new result }
@@ -64,10 +75,7 @@ pub fn offered(chip: &mut Chip, byte: u8) -> u8
         one_lost(chip);
         return 1;
     }
-    let write = chip.state[WRITE];
-    let slot = (write % 64) as usize;
-    chip.slots[slot] = byte;
-    chip.state[WRITE] = write.wrapping_add(1);
+    stored(chip, byte);
     0
 }
 
@@ -153,11 +161,8 @@ pub fn fifo_written(chip: &mut Chip, byte: u8) -> u8
         one_lost(chip);
         return 1;
     }
-    let write = chip.state[WRITE];
-    let slot = (write % 64) as usize;
-    chip.slots[slot] = byte;
-    chip.state[WRITE] = write.wrapping_add(1);
     let level = fifo_level(chip);
+    stored(chip, byte);
     chip.requested(alerts(count + 1, level) & !alerts(count, level));
     0
 }

@@ -15,9 +15,9 @@ ghost use Rattle.state_clauses.specs.Clauses.{timer_fields_formed, edition_field
 ghost use Rattle.state_formed.specs.Judged.{ReadsFields, Judges, first_clear, rests_with, usual_with, usual};
 
 use state::{
-    CONTROL, CRC_MODE, CRC_REGISTER, Chip, EDITION, ENABLES, ERRORS, KEY_LOADED, LATCHED, LEFT,
-    NEXT, PAGE, PHASE, POWER_DOWN, PRESCALER, REQUESTS, RUNNING, RX_LAST_BITS, STAGE, STAND_BY,
-    VALUE, modes_word,
+    CALC_CRC, CONTROL, CRC_MODE, CRC_REGISTER, Chip, EDITION, ENABLES, ERRORS, IDLE, KEY_LOADED,
+    LATCHED, LEFT, NEXT, PAGE, PHASE, POWER_DOWN, PRESCALER, REQUESTS, RUNNING, RX_LAST_BITS,
+    STAGE, STAND_BY, VALUE, modes_word,
 };
 use state_clauses::{
     bits_formed, checksum_formed, edition_formed, flags_formed, modes_formed, room, timer_formed,
@@ -42,10 +42,10 @@ fn none(word: u64, left: u32, modes: u32) -> u64
 fn rests(stage: u8, count: u8) -> bool
     ensures { result ≡ rests_with stage count }
 {
-    if stage == 0x00 {
+    if stage == IDLE {
         return count <= 64;
     }
-    (stage == 0x12) & (count == 0)
+    (stage == CALC_CRC) & (count == 0)
 }
 
 // Whether the timer is formed, with one that has stopped first.

@@ -4,7 +4,7 @@ use Rattle.machine.specs.Fifo.{offered, alerted}
 use Rattle.state.specs.View.{view, view_of}
 use Rattle.state.proofs.RingLaws.{count_length}
 use Rattle.state.proofs.TurnLaws.{then, becomes}
-use Rattle.state_fifo.proofs.FifoLaws.{offer_lost, lost_quiet, none_lost, one_is_lost, stored_byte, stored_registers, stored_length, alerts_over}
+use Rattle.state_fifo.proofs.FifoLaws.{offer_lost, lost_quiet, none_lost, one_is_lost, stored_registers, stored_length, alerts_over}
 use Rattle.state_fifo.proofs.fifo_written.Goals as goal
 
 pub returns-then-count-ge64-clause-turns : goal.returns-then-count-ge64-clause-turns
@@ -26,7 +26,7 @@ returns-clause-turns c sizes =
     let p = c.held-count.ensures in
     let count = count_length p old.slots in
     let room : c.held-count.result < 64 = omega arith in
-    let stores = stored_byte old p room a.byte sizes in (
+    let stores = c.stored.ensures.turns _ p room sizes in (
       becomes (λ m. alerted m (offered a.byte m)) (then stores (c.requested.ensures.turns stores.sizes))
           (alerts_over (view old) (offered a.byte (view old)) c.held-count.result (c.held-count.result + 1) level.result c.alerts.result c.alerts-2.result
           level.ensures (stored_registers a.byte (view old)) count

@@ -4,7 +4,7 @@ use Rattle.machine.specs.Fifo.{offered}
 use Rattle.state.specs.View.{view, view_of}
 use Rattle.state.proofs.RingLaws.{count_length}
 use Rattle.state.proofs.TurnLaws.{becomes}
-use Rattle.state_fifo.proofs.FifoLaws.{offer_lost, none_lost, one_is_lost, stored_byte}
+use Rattle.state_fifo.proofs.FifoLaws.{offer_lost, none_lost, one_is_lost}
 use Rattle.state_fifo.proofs.offered.Goals as goal
 
 pub returns-then-held-ge64-clause-turns : goal.returns-then-held-ge64-clause-turns
@@ -19,6 +19,6 @@ pub returns-clause-turns : goal.returns-clause-turns
 unfolding view_of
 returns-clause-turns c sizes =
     let old = c.args.chip.now in (
-      stored_byte old c.held.ensures (omega arith) c.args.byte sizes,
+      c.stored.ensures.turns _ c.held.ensures (omega arith) sizes,
       none_lost (view old) (omega (arith, count_length c.held.ensures old.slots)),
     )

@@ -5,13 +5,13 @@ use Rattle.state.specs.View.{core, view_of}
 use Rattle.event_host_read.proofs.ShownLaws.{below_sends, below_receives}
 use Rattle.event_host_read.proofs.status.modem_state.Goals as goal
 
-pub returns-then-chip-lt90 : goal.returns-then-chip-lt90
+pub returns-then-chip-lt-TRANSMIT : goal.returns-then-chip-lt-TRANSMIT
 unfolding view_of
-returns-then-chip-lt90 c = record {
+returns-then-chip-lt-TRANSMIT c = record {
   is =
       let chip = c.args.chip.now in
       let k = core chip in
-      simp (below_receives k chip.latch c.if-chip-lt90.true, below_sends k chip.latch c.if-chip-lt90.true);
+      simp (below_receives k chip.latch c.if-chip-lt-TRANSMIT.true, below_sends k chip.latch c.if-chip-lt-TRANSMIT.true);
   small = omega arith;
 }
 

@@ -1,0 +1,6 @@
+-- `state_fifo::stored` meets its contract. Assumes nothing.
+use Rattle.state_fifo.proofs.FifoLaws.{stored_byte}
+use Rattle.state_fifo.proofs.stored.Goals as goal
+
+pub returns-clause-turns : goal.returns-clause-turns
+returns-clause-turns c n p room = stored_byte c.args.chip.now p room c.args.byte

@@ -10,6 +10,7 @@ ghost use Rattle.profile_line.specs.Line.{refuse_text, refuse_at_text, refuse_bi
 use profile::Refusal;
 
 // A text of up to 32 bytes: the first `length` bytes of its own.
+// Kept: tried Display with `write!` into a fmt::Write; the proof did not close: write_fmt's contract does not rule out Err, and write_line cannot fail.
 #[derive(Drop)]
 struct Text {
     bytes: [u8; 32],

@@ -2,24 +2,28 @@
 
 #![tactic(auto)]
 
+ghost use Rattle.std.specs.Prelude.{◌+◌, ◌≤◌, length};
+
 use program_blank_chip::{blank_chip, blank_image};
 use program_steps::{steps, table};
 use state::{Chip, EDITION, PAGE};
 
-// Bytes from an address on. An index is kept inside the image by a remainder, so that every call is safe.
-fn place(image: &mut [u8; 512], at: usize, bytes: &[u8]) {
-    for (i, byte) in bytes.iter().enumerate() {
-        image[(at % 512 + i % 512) % 512] = *byte;
-    }
+// Bytes from an address on.
+fn place(image: &mut [u8; 512], at: usize, bytes: &[u8])
+    requires { at + length bytes.now ≤ 512 }
+{
+    let end = at + bytes.len();
+    image[at..end].copy_from_slice(bytes);
 }
 
 // The profile that the MFRC531 is shipped with (data sheet 005, Table 15), page by page.
-fn place_profile(image: &mut [u8; 512], at: usize) {
-    let start = at % 512;
-    place(image, start, b"\x00\x58\x3F\x3F\x19\x13\x3F\x3B");
-    place(image, start + 0x08, b"\x00\x73\x08\xAD\xFF\x1E\x41\x00");
-    place(image, start + 0x10, b"\x00\x06\x03\x63\x63\x00\x00\x00");
-    place(image, start + 0x18, b"\x00\x08\x07\x06\x0A\x02\x00\x00");
+fn place_profile(image: &mut [u8; 512], at: usize)
+    requires { at + 32 ≤ 512 }
+{
+    place(image, at, b"\x00\x58\x3F\x3F\x19\x13\x3F\x3B");
+    place(image, at + 0x08, b"\x00\x73\x08\xAD\xFF\x1E\x41\x00");
+    place(image, at + 0x10, b"\x00\x06\x03\x63\x63\x00\x00\x00");
+    place(image, at + 0x18, b"\x00\x08\x07\x06\x0A\x02\x00\x00");
 }
 
 // The EEPROM image that the chip starts from: the MFRC531's product type; the shipped profile at 010h, and at 030h with FIFOLevel 04h; A7h at 07Fh;

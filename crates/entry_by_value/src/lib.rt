@@ -1,5 +1,5 @@
-// The six events by value: the chip is passed in, and handed back with the answer. Each is the event in place, on a chip of its own. So is the call for the sum of
-// lost bytes, which hands no chip back, since it changes none.
+// The six events by value: the chip is passed in, and handed back with the answer. Each is the event on a chip of its own. So is the call for the sum of lost bytes,
+// which hands no chip back, since it changes none. `whole` says for the proof what the chip is by its types.
 
 #![tactic(auto)]
 
@@ -8,11 +8,7 @@ ghost use Rattle.machine.specs.Refusals.{start, host_read, host_write, advance, 
 ghost use Rattle.state.specs.Meets.{Meets};
 ghost use Rattle.state.specs.LostSum.{lost_sum_of};
 
-use entry_in_place::{
-    mfrc531_advance, mfrc531_deliver, mfrc531_lost_sum, mfrc531_read, mfrc531_start, mfrc531_take,
-    mfrc531_write,
-};
-use state::Chip;
+use state::{Chip, Coded};
 
 // What an event by value gives back: the next chip, and the number answered.
 #[derive(Clone, Copy)]
@@ -25,8 +21,9 @@ pub struct Outcome {
 pub fn start(chip: Chip, image: &[u8]) -> Outcome
     ensures { Meets chip (start image.now) result.chip result.answer [] }
 {
+    entry_walk::whole(&chip);
     let mut next = chip;
-    let started = mfrc531_start(&mut next, image);
+    let started = event_image_start::start(&mut next, image).code();
     Outcome {
         chip: next,
         answer: started,
@@ -37,8 +34,9 @@ pub fn start(chip: Chip, image: &[u8]) -> Outcome
 pub fn host_read(chip: Chip, address: u8) -> Outcome
     ensures { Meets chip (host_read address) result.chip result.answer [] }
 {
+    entry_walk::whole(&chip);
     let mut next = chip;
-    let read = mfrc531_read(&mut next, address);
+    let read = event_host_read::host_read(&mut next, address).code();
     Outcome {
         chip: next,
         answer: read,
@@ -49,8 +47,9 @@ pub fn host_read(chip: Chip, address: u8) -> Outcome
 pub fn host_write(chip: Chip, address: u8, v: u8) -> Outcome
     ensures { Meets chip (host_write address v) result.chip result.answer [] }
 {
+    entry_walk::whole(&chip);
     let mut next = chip;
-    let written = mfrc531_write(&mut next, address, v);
+    let written = event_host_write::host_write(&mut next, address, v).code();
     Outcome {
         chip: next,
         answer: written,
@@ -61,8 +60,9 @@ pub fn host_write(chip: Chip, address: u8, v: u8) -> Outcome
 pub fn advance(chip: Chip, by: u32) -> Outcome
     ensures { Meets chip (advance by) result.chip result.answer [] }
 {
+    entry_walk::whole(&chip);
     let mut next = chip;
-    let advanced = mfrc531_advance(&mut next, by);
+    let advanced = event_clock_advance::advance(&mut next, by).code();
     Outcome {
         chip: next,
         answer: advanced,
@@ -73,8 +73,9 @@ pub fn advance(chip: Chip, by: u32) -> Outcome
 pub fn take(chip: Chip, buffer: &mut [u8]) -> Outcome
     ensures { Meets chip (take_frame buffer.old) result.chip result.answer buffer.new }
 {
+    entry_walk::whole(&chip);
     let mut next = chip;
-    let taken = mfrc531_take(&mut next, buffer);
+    let taken = event_frame_take::take(&mut next, buffer).code();
     Outcome {
         chip: next,
         answer: taken,
@@ -86,8 +87,9 @@ pub fn deliver(chip: Chip, bytes: &[u8], parities: &[u8], last_bits: u8) -> Outc
     ensures { let call = deliver bytes.now parities.now last_bits in
         Meets chip call result.chip result.answer [] }
 {
+    entry_walk::whole(&chip);
     let mut next = chip;
-    let delivered = mfrc531_deliver(&mut next, bytes, parities, last_bits);
+    let delivered = event_frame_deliver::deliver(&mut next, bytes, parities, last_bits).code();
     Outcome {
         chip: next,
         answer: delivered,
@@ -98,5 +100,6 @@ pub fn deliver(chip: Chip, bytes: &[u8], parities: &[u8], last_bits: u8) -> Outc
 pub fn lost_sum(chip: Chip) -> u32
     ensures { result ≡ lost_sum_of chip }
 {
-    mfrc531_lost_sum(&chip)
+    entry_walk::whole(&chip);
+    query_lost_sum::sum_number(query_lost_sum::lost_sum(&chip))
 }

@@ -1,4 +1,4 @@
-// A host read on lent arrays (manual 9.2): what an address reads, and the byte that a read of FIFOData removes.
+// A host read on a chip lent (manual 9.2): what an address reads, and the byte that a read of FIFOData removes.
 
 #![tactic(auto)]
 

@@ -1,4 +1,4 @@
-// What each register (manual 2.2) reads but FIFOData and PrimaryStatus, and which register an address is.
+// What each register (manual 2.2) reads but FIFOData and PrimaryStatus.
 ghost use Rattle.std.specs.Prelude.{◌≡◌, ◌%◌, ◌<◌};
 ghost use Rattle.machine.specs.Registers.{register_read};
 ghost use Rattle.event_host_read.specs.Shown.{Shows};

@@ -12,8 +12,8 @@ fn paired(byte: u8) -> bool
     byte == (15 - byte % 16) * 16 + byte % 16
 }
 
-// The key that twelve bytes stand for. Each pair is tested before its byte is made; where one byte is bad there is no key, and the key that is judged is the
-// empty one.
+// The key that twelve bytes stand for. Each pair is tested before its byte is made; there is none where one byte is bad, and
+// `judged_key` has the empty key for it.
 pub fn key_of(stored: [u8; 12]) -> Option<[u8; 6]>
     ensures loaded { is_some result ≡ format_holds stored }
     ensures bytes { unwrap_or result empty_key ≡ judged_key stored }

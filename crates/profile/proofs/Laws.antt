@@ -3,8 +3,9 @@
 use mathlib.Core.Path.{◌≡◌, refl, ap, sym, ◌∙◌}
 use Prim.Native.Nat.{ℕ, zero, suc, ◌+◌, ◌<◌, ◌≤◌}
 use native.Mathlib.Nat.{not-suc-le-zero}
-use mathlib.Core.Bool.{Bool, false, cond}
-use Rattle.profile.specs.Answer.{Answer, pass, is_pass, or_else, refusal_answer}
+use mathlib.Core.Bool.{Bool, true, false, cond, true≢false}
+use Rattle.std.specs.Prelude.{⊤, Result, Ok, Err, is_err}
+use Rattle.profile.specs.Answer.{Answer, pass, is_pass, or_else, refusal_answer, answer_of}
 use Rattle.profile.specs.Check.{first_refusal}
 use Rattle.profile.specs.declared.Refusal.{Refusal}
 use Rattle.profile.specs.declared.Refusal.TheVariants.{Length, FixedBit, PreScaler, Reload, WaterLevel}
@@ -38,3 +39,12 @@ refusal_fails (FixedBit register bit) = refl
 refusal_fails (PreScaler register) = refl
 refusal_fails (Reload register) = refl
 refusal_fails (WaterLevel register) = refl
+
+-- A verdict that is no error passes, and one that is fails.
+pub taken_passes : (r : Result ⊤ Refusal) → is_err r ≡ false → answer_of r ≡ pass
+taken_passes (Ok done) e = refl
+taken_passes (Err refusal) e = absurd (true≢false e)
+
+pub taken_fails : (r : Result ⊤ Refusal) → is_err r ≡ true → is_pass (answer_of r) ≡ false
+taken_fails (Ok done) e = absurd (true≢false (sym e))
+taken_fails (Err refusal) e = refusal_fails refusal

@@ -65,22 +65,6 @@ fn reload_refused(register: u8, control: u8, reload: u8) -> bool
     control / 2 % 2 == 1
 }
 
-// The verdict on the fixed bits of a register: the lowest that differs is named.
-fn fixed_bits_verdict(edition: Edition, profile: &[u8], register: u8) -> Result<(), Refusal>
-    requires { (length profile.now ≡ 32) × (0x10 ≤ register) × (register < 0x30) }
-    ensures { answer_of result ≡ fixed_bits_judged (fixed_bits edition) profile.now register }
-{
-    let position = (register - 0x10) as usize;
-    let fixed = fixed_bits(edition, position);
-    let byte = profile[position];
-    for bit in 0..8 {
-        if differs(fixed, byte, bit) {
-            return Err(Refusal::FixedBit { register, bit });
-        }
-    }
-    Ok(())
-}
-
 // The verdict on the values at a register whose fixed bits hold.
 fn value_verdict(profile: &[u8], register: u8) -> Result<(), Refusal>
     requires { length profile.now ≡ 32 }
@@ -106,9 +90,21 @@ pub fn check(edition: Edition, profile: &[u8]) -> Result<(), Refusal>
     if profile.len() != 32 {
         return Err(Refusal::Length);
     }
-    for register in 0x10..0x30 {
-        fixed_bits_verdict(edition, profile, register)?;
-        value_verdict(profile, register)?;
+    let mut verdict = Ok(());
+    'registers: for register in 0x10..0x30 {
+        let position = (register - 0x10) as usize;
+        let fixed = fixed_bits(edition, position);
+        let byte = profile[position];
+        for bit in 0..8 {
+            if differs(fixed, byte, bit) {
+                verdict = Err(Refusal::FixedBit { register, bit });
+                break 'registers;
+            }
+        }
+        verdict = value_verdict(profile, register);
+        if verdict.is_err() {
+            break 'registers;
+        }
     }
-    Ok(())
+    verdict
 }

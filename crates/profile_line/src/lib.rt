@@ -108,13 +108,16 @@ impl Text {
         ensures size { self.new.length ≤ self.old.length + 24 }
         ensures text { text_of self.new ≡ text_of self.old ++ answer_text (answer_of verdict) }
     {
-        match verdict {
-            Ok(()) => self.put(b"pass"),
-            Err(Refusal::Length) => self.put_refuse(9),
-            Err(Refusal::FixedBit { register, bit }) => self.put_refuse_bit(10, register, bit),
-            Err(Refusal::PreScaler { register }) => self.put_refuse_at(11, register),
-            Err(Refusal::Reload { register }) => self.put_refuse_at(12, register),
-            Err(Refusal::WaterLevel { register }) => self.put_refuse_at(13, register),
+        let Err(refusal) = verdict else {
+            self.put(b"pass");
+            return;
+        };
+        match refusal {
+            Refusal::Length => self.put_refuse(9),
+            Refusal::FixedBit { register, bit } => self.put_refuse_bit(10, register, bit),
+            Refusal::PreScaler { register } => self.put_refuse_at(11, register),
+            Refusal::Reload { register } => self.put_refuse_at(12, register),
+            Refusal::WaterLevel { register } => self.put_refuse_at(13, register),
         }
     }
 }

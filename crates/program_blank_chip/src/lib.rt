@@ -8,7 +8,6 @@ ghost use Rattle.program_blank_chip.specs.Blank.{blank_chip, blank_image};
 use state::Chip;
 
 // Every number is 0. A start does not look at the chip, so any would do.
-
 pub fn blank_chip() -> Chip
     ensures { result ≡ blank_chip }
 {

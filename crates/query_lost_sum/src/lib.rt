@@ -1,4 +1,4 @@
-// The call for the sum of lost bytes on the chip's arrays (manual 9.9). It is no event: it changes nothing, and takes no time.
+// The call for the sum of lost bytes of a chip (manual 9.9). It is no event: it changes nothing, and takes no time.
 
 #![tactic(auto)]
 

@@ -1,7 +1,7 @@
-// The chip as a program keeps it (manual 13.1): arrays of numbers, which every function is lent where they lie and changes in place.
+// The chip as a program keeps it (manual 13.1): eight arrays of numbers. A function is lent the chip whole, and changes it in place.
 //
 // Any memory is some chip, which refusal 7 judges. Names are the data sheet's. specs/View.antt says which machine the arrays are,
-// specs/Formed.antt when a chip is well formed, specs/Turns.antt what a function on some of the arrays promises.
+// specs/Formed.antt when a chip is well formed, specs/Turns.antt what a function that is lent a chip promises.
 
 #![tactic(auto)]
 

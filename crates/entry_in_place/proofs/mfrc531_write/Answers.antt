@@ -1,5 +1,5 @@
 -- The number of what the event promises of every chip that is what its types say. Assumes nothing.
-use Rattle.entry_in_place.proofs.NumberLaws.{numbered}
+use Rattle.entry_walk.proofs.NumberLaws.{numbered}
 use Rattle.entry_in_place.proofs.mfrc531_write.Goals as goal
 
 pub returns : goal.returns

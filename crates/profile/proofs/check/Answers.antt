@@ -1,44 +1,59 @@
--- `profile::check` meets its contract: a register that passes is left behind, and a refusal ends the search. Assumes nothing.
-use Rattle.std.proofs.Common.{◌-◌, refl, sym, ◌∙◌, arith}
+-- `profile::check` meets its contract: a bit that holds and a register that passes are left behind, and the first refusal ends both loops. Assumes nothing.
+use Rattle.std.proofs.Common.{◌≡◌, ◌-◌, refl, sym, ap, ◌∙◌, arith}
 use Rattle.edition.specs.Edition.{fixed_bits}
-use Rattle.profile.specs.Answer.{refusal_answer}
-use Rattle.profile.specs.Check.{register_judged}
-use Rattle.profile.proofs.Laws.{none_left, passes, stops, refusal_fails}
-use Rattle.std.proofs.lemmas.Result.{err_from_is_err_and}
+use Rattle.profile.specs.Answer.{Answer, pass, refuse_bit, or_else, answer_of}
+use Rattle.profile.specs.Check.{bit_judged, fixed_bits_judged, value_judged, register_judged}
+use Rattle.profile.proofs.Laws.{none_left, passes, stops, taken_passes, taken_fails}
 use Rattle.profile.proofs.check.Goals as goal
 
-pub returns-in_err-fixed_bits_verdict : goal.returns-in_err-fixed_bits_verdict
-returns-in_err-fixed_bits_verdict c =
+pub loop-bit-preserved : goal.loop-bit-preserved
+loop-bit-preserved c =
     let a = c.args in
-    let refusal = c.in_err-fixed_bits_verdict.field-0.0 in
-    let p = err_from_is_err_and c.from_residual.result c.from_residual.ensures.1 in
-    rw (p.1, p.2)
-    (sym
-    (stops (register_judged (fixed_bits a.edition) a.profile.now) (0x30 - c.loop-register.register) c.loop-register.register (refusal_answer refusal) (omega arith)
-    (simp (sym c.in_err-fixed_bits_verdict.ensures, refusal_fails))
-    (refusal_fails refusal))
-    ∙ c.loop-register.invariant)
+    passes (bit_judged (fixed_bits a.edition) a.profile.now c.registers.register) (omega arith) refl
+    (simp (sym c.fixed_bits-fixed.ensures, sym c.differs.ensures ∙ c.if-differs.false))
+    ∙ c.loop-bit.invariant
 
-pub returns-in_err-value_verdict : goal.returns-in_err-value_verdict
-returns-in_err-value_verdict c =
-    let a = c.args in
-    let refusal = c.in_err-value_verdict.field-0.0 in
-    let p = err_from_is_err_and c.from_residual-in_err-value_verdict.result c.from_residual-in_err-value_verdict.ensures.1 in
-    rw (p.1, p.2)
-    (sym
-    (stops (register_judged (fixed_bits a.edition) a.profile.now) (0x30 - c.loop-register.register) c.loop-register.register (refusal_answer refusal) (omega arith)
-    (simp (sym c.in_ok-fixed_bits_verdict.ensures, sym c.in_err-value_verdict.ensures))
-    (refusal_fails refusal))
-    ∙ c.loop-register.invariant)
+pub returns-then-differs : goal.returns-then-differs
+returns-then-differs c =
+    let profile = c.args.profile.now in
+    let table = fixed_bits c.args.edition in
+    let register = c.registers.register in
+    let bit = c.loop-bit.bit in
+    let is : refuse_bit 10 register bit ≡ fixed_bits_judged table profile register =
+    sym
+    (stops (bit_judged table profile register) (8 - bit) bit _ (omega arith)
+    (simp (sym c.fixed_bits-fixed.ensures, sym c.differs.ensures ∙ c.if-differs.true))
+    refl)
+    ∙ c.loop-bit.invariant in
+    sym (stops (register_judged table profile) (0x30 - register) register _ (omega arith) (ap (λ (x : Answer). or_else x (value_judged profile register)) (sym is)) refl)
+    ∙ c.registers.invariant.1
 
-pub loop-register-preserved : goal.loop-register-preserved
-loop-register-preserved c =
-    let a = c.args in
-    passes (register_judged (fixed_bits a.edition) a.profile.now) (omega arith) refl
-    (simp (sym c.in_ok-fixed_bits_verdict.ensures, sym c.in_ok-value_verdict.ensures))
-    ∙ c.loop-register.invariant
+pub registers-preserved : goal.registers-preserved
+registers-preserved c =
+    let profile = c.args.profile.now in
+    let table = fixed_bits c.args.edition in
+    let register = c.registers.register in
+    let bits : pass ≡ fixed_bits_judged table profile register = sym (none_left (bit_judged table profile register) (8 - c.loop-bit.bit) c.loop-bit.bit (omega arith)) ∙ c.loop-bit.invariant in
+    let value = taken_passes c.value_verdict-verdict.result (sym c.is_err.ensures.value ∙ c.if-is_err.false) in (
+      value,
+      passes (register_judged table profile) (omega arith) refl (λ i. or_else (sym bits i) ((sym c.value_verdict-verdict.ensures ∙ value) i)) ∙ c.registers.invariant.1,
+    )
 
-pub returns : goal.returns
-returns c =
+pub returns-then-is_err : goal.returns-then-is_err
+returns-then-is_err c =
+    let profile = c.args.profile.now in
+    let table = fixed_bits c.args.edition in
+    let register = c.registers.register in
+    let bits : pass ≡ fixed_bits_judged table profile register = sym (none_left (bit_judged table profile register) (8 - c.loop-bit.bit) c.loop-bit.bit (omega arith)) ∙ c.loop-bit.invariant in
+    let r = c.value_verdict-verdict.result in
+    sym
+    (stops (register_judged table profile) (0x30 - register) register (answer_of r) (omega arith)
+    (λ i. or_else (sym bits i) (sym c.value_verdict-verdict.ensures i))
+    (taken_fails r (sym c.is_err.ensures.value ∙ c.if-is_err.true)))
+    ∙ c.registers.invariant.1
+
+pub returns-after-registers : goal.returns-after-registers
+returns-after-registers c =
     let a = c.args in
-    sym (none_left (register_judged (fixed_bits a.edition) a.profile.now) (0x30 - c.loop-register.register) c.loop-register.register (omega arith)) ∙ c.loop-register.invariant
+    c.registers.invariant.0
+    ∙ (sym (none_left (register_judged (fixed_bits a.edition) a.profile.now) (0x30 - c.registers.register) c.registers.register (omega arith)) ∙ c.registers.invariant.1)

@@ -28,6 +28,7 @@ fn offered_memory(chip: &mut Chip, address: u16, count: u8) -> u8
     let start = address as usize;
     let end = count as usize;
     let mut lost: u8 = 0;
+    // Kept: the chip is lent whole to what the loop calls, so that no part of its memory can be gone through beside it.
     for i in 0..end {
         let byte = chip.eeprom[start + i];
         lost += offered(chip, byte);

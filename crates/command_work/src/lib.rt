@@ -23,6 +23,7 @@ pub fn worked(chip: &mut Chip) -> u8
     ensures small { result ≤ 128 }
     ensures rest { chip.new.eeprom ≡ chip.old.eeprom }
 {
+    // Kept: a table of closures by the stage would name each command twice.
     match chip.state[STAGE] {
         WRITE_E2 => {
             if chip.clocks[LEFT] != 0 {

@@ -40,6 +40,7 @@ fn batch(count: u8, next: u16) -> u8
 }
 
 // Held bytes, the first from a position on, are copied to the front of the latch.
+// Kept: tried with `&mut chip.latch[..]` at the call: a part of an array of a chip that is lent cannot be lent on.
 fn latch_bytes(latch: &mut [u8; 16], slots: &[u8; 64], position: u8, count: u8)
     requires { count ≤ 16 }
     ensures { length latch.old ≡ 16 → latch.new ≡ held_from slots.now position count ++ drop count latch.old }

@@ -11,6 +11,7 @@ ghost use Rattle.state.specs.LostSum.{lost_sum_of};
 use state::{Chip, Coded};
 
 // What an event by value gives back: the next chip, and the number answered.
+// Kept: the answer is a number, as the clauses of `Promised` (journal_runs) have it for both forms.
 #[derive(Clone, Copy)]
 pub struct Outcome {
     pub chip: Chip,

@@ -1,6 +1,8 @@
 // The functions of the C interface (manual 13.2): the six events on a chip that the caller lends, the sum of lost bytes, the profile check, the choice for
 // a safe start, and packs of profiles. `entry_in_place_c` gives each to C by its name; here they are a library, which `journal_runs` stands on.
 //
+// Kept: every function here answers a number, which the C interface needs.
+//
 // An event is lent the chip, and its answer or its refusal is given as the number that stands for it. `whole` says for the proof what the chip is by its types.
 
 #![tactic(auto)]

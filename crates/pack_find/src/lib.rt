@@ -37,6 +37,7 @@ pub fn find_checked(pack: &[u8], name: &[u8]) -> Result<usize, FindError>
 {
     let mut low: usize = 0;
     let mut high = count(pack);
+    // Kept: `halved` (pack, Find) has these nine comparisons, and entries of bytes are no slice that std could search.
     for comparisons in 0..9usize {
         if low >= high {
             return Err(FindError::NotFound);

@@ -20,6 +20,7 @@ fn compare_bytes(a: &[u8], b: &[u8]) -> Ordering
 }
 
 // Compares two byte strings, of any lengths: eight bytes at a time while both have as many left, then byte by byte.
+// Kept: eight bytes at a time meet the bar of a read and a find of packs (docs/PERFORMANCE.md), which byte by byte takes 2.7 times.
 pub fn compare(a: &[u8], b: &[u8]) -> Ordering
     ensures { result ≡ compared a.now b.now }
 {

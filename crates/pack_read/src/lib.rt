@@ -31,6 +31,7 @@ impl From<ReadError> for u32 {
 }
 
 // How many profiles a pack of this length has; 0 where no pack has it.
+// Kept: the clause by `count_in` has 0 for a length that no pack has.
 pub fn count(pack: &[u8]) -> usize
     ensures { result ≡ count_in pack.now }
 {

@@ -73,6 +73,7 @@ fn put_trailer(buffer: &mut [u8], at: usize, number: usize) -> usize
 }
 
 // Writes the pack to the front of the buffer, and answers its length; later bytes stay. An error leaves all as it was.
+// Kept: names and bodies are two flat slices for the C interface.
 pub fn write(names: &[u8], bodies: &[u8], buffer: &mut [u8]) -> Result<usize, WriteError>
     ensures { let outcome = writing names.now bodies.now (length buffer.old) in
         (result ≡ answered length error_of outcome) × (buffer.new ≡ filled outcome buffer.old) }

@@ -124,6 +124,7 @@ impl Text {
 
 // Fills the verdict's line, newline ended, into the start of `line`, and answers its length. Later bytes stay. A buffer under 32 bytes
 // may be too short for some verdict: it is left as it was, and the answer is 0.
+// Kept: `LineMeets` has 0 for a buffer that is too short.
 pub fn write_line(verdict: Result<(), Refusal>, line: &mut [u8]) -> usize
     ensures { LineMeets (answer_of verdict) line.old line.new result }
 {

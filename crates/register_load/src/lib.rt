@@ -15,6 +15,7 @@ pub fn load_registers(chip: &mut Chip, address: u16)
         chip.new ≡ with_registers (over_registers 0 chip.old.registers bytes) chip.old }
 {
     let start = address as usize;
+    // Kept: each eighth place is left out, and an address goes on at 000h: by parts of the memory this is no plainer.
     for i in 0..32 {
         if i % 8 != 0 {
             let from = (start + i) % 512;

@@ -88,6 +88,7 @@ pub const BIT_FRAMING: usize = 16;
 
 // Values of the stage: a command's code in bits 5-0, and how far it is in bits 7-6. WriteE2 has its address with bit 6; Transmit and Transceive send with bit 6,
 // and Receive and Transceive receive with bit 7.
+// Kept: numbers and no enum, since the C interface lends this element, where any byte may stand, and two tests go by the order of the values.
 pub const IDLE: u8 = 0x00;
 
 pub const WRITE_E2: u8 = 0x01;
@@ -121,6 +122,7 @@ fn distance(read: u8, write: u8) -> u8
 
 // The numbers of the two power modes as one word, StandBy's below PowerDown's. That they have 16 bits is known of parameters by value, and not of elements
 // that are loaded.
+// Kept: std's `from_le_bytes` takes bytes, and these are numbers of 16 bits; by `u32::from` and a shift it is no plainer.
 pub fn modes_word(low: u16, high: u16) -> u32
     ensures { result ≡ high * 2 ^ 16 + low }
 {
@@ -144,6 +146,7 @@ pub fn control_byte(standby: bool, powerdown: bool) -> u8
 }
 
 // What a call answers that lost so many bytes: their number in bits 31-24.
+// Kept: the edit `lost_in_bits_23_16` is of this function; `Lost` answers its number by it.
 pub fn losing(count: u8) -> u32
     ensures { result ≡ coded (lost count) }
 {

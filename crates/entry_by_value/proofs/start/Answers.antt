@@ -3,4 +3,4 @@ use Rattle.entry_walk.proofs.NumberLaws.{numbered}
 use Rattle.entry_by_value.proofs.start.Goals as goal
 
 pub returns : goal.returns
-returns c = numbered c.start.ensures c.whole.ensures c.code.ensures
+returns c = numbered c.start.ensures c.whole.ensures c.code-started.ensures

@@ -7,7 +7,8 @@ ghost use Rattle.std.specs.Prelude.{◌≡◌, true, MatchOption};
 ghost use Rattle.machine.specs.State.{with_command};
 ghost use Rattle.machine.specs.Commands.{checksum_started, command_started, command_written};
 ghost use Rattle.state.specs.View.{with_clocks, with_numbers, with_state};
-ghost use Rattle.state.specs.Turns.{Turns};
+ghost use Rattle.state.specs.Parts.{clocks_numbers_state_registers, clocks_state, numbers_state_registers};
+ghost use Rattle.state.specs.Turns.{Turns, TurnsAny};
 ghost use Rattle.command_begin.specs.Begins.{begins, begun, prepared, BeginsIn, IsUnknown};
 
 use state::{
@@ -19,6 +20,7 @@ use state::{
 // store delays the load of that word.
 pub fn checksum_started(chip: &mut Chip)
     ensures turns { Turns checksum_started chip.old chip.new }
+    ensures others { TurnsAny numbers_state_registers checksum_started chip.old chip.new }
     ensures rest { chip.new ≡ with_numbers chip.new.numbers (with_state chip.new.state chip.old) }
 {
     let mode = chip.registers[0x22 - 0x10];
@@ -46,6 +48,7 @@ fn first_stage(code: u8) -> Option<u8>
 // What a code's command does before it begins: LoadKeyE2 and LoadKey clear KeyErr, and CalcCRC reads its presets.
 fn prepared(chip: &mut Chip, code: u8)
     ensures turns { Turns (prepared code) chip.old chip.new }
+    ensures others { TurnsAny numbers_state_registers (prepared code) chip.old chip.new }
     ensures rest { chip.new ≡ with_numbers chip.new.numbers (with_state chip.new.state chip.old) }
 {
     match code {
@@ -58,6 +61,7 @@ fn prepared(chip: &mut Chip, code: u8)
 // The command becomes that of a stage in which one begins; nothing is latched, and no programming clocks are left.
 fn switched(chip: &mut Chip, stage: u8)
     ensures turns { begins stage ≡ true → Turns (with_command (begun stage)) chip.old chip.new }
+    ensures others { begins stage ≡ true → TurnsAny clocks_state (with_command (begun stage)) chip.old chip.new }
     ensures rest { chip.new ≡ with_clocks chip.new.clocks (with_state chip.new.state chip.old) }
 {
     chip.clocks[LEFT] = 0;
@@ -68,6 +72,7 @@ fn switched(chip: &mut Chip, stage: u8)
 // A code is started; an unknown one ends at once.
 fn begun(chip: &mut Chip, code: u8)
     ensures turns { Turns (command_started code) chip.old chip.new }
+    ensures others { TurnsAny clocks_numbers_state_registers (command_started code) chip.old chip.new }
     ensures rest { chip.new ≡ with_clocks chip.new.clocks (with_numbers chip.new.numbers (with_state chip.new.state chip.old)) }
 {
     match first_stage(code) {
@@ -82,6 +87,7 @@ fn begun(chip: &mut Chip, code: u8)
 // Command is written; the code is in bits 5-0. AccessErr, CRCErr and ParityErr are cleared.
 pub fn command_written(chip: &mut Chip, v: u8)
     ensures turns { Turns (command_written v) chip.old chip.new }
+    ensures others { TurnsAny clocks_numbers_state_registers (command_written v) chip.old chip.new }
     ensures rest { chip.new ≡ with_clocks chip.new.clocks (with_numbers chip.new.numbers (with_state chip.new.state chip.old)) }
 {
     if chip.programs() {

@@ -7,7 +7,8 @@ ghost use Rattle.crc.specs.Checksum.{absorbed_all};
 ghost use Rattle.machine.specs.State.{CalcCRC};
 ghost use Rattle.machine.specs.Commands.{stepped_as};
 ghost use Rattle.state.specs.View.{held_from, with_numbers, with_state};
-ghost use Rattle.state.specs.Turns.{Turns};
+ghost use Rattle.state.specs.Parts.{numbers_state_slots};
+ghost use Rattle.state.specs.Turns.{Turns, TurnsAny};
 
 use state::{CRC_MODE, CRC_REGISTER, Chip, READ};
 use state_fifo::emptied;
@@ -28,6 +29,7 @@ fn absorbed(slots: &[u8; 64], position: u8, count: u8, mode: u8, register: u16) 
 // CalcCRC's step: every held byte is taken, and TxIRq is set when any was.
 pub fn calc_crc(chip: &mut Chip)
     ensures turns { Turns (stepped_as CalcCRC) chip.old chip.new }
+    ensures others { TurnsAny numbers_state_slots (stepped_as CalcCRC) chip.old chip.new }
     ensures rest { chip.new ≡ with_numbers chip.new.numbers (with_state chip.new.state chip.old) }
 {
     let count = chip.held();

@@ -5,9 +5,10 @@ use mathlib.Core.Path.{◌≡◌, sym, ap, ◌∙◌, subst}
 use mathlib.Core.Bool.{true, false, ◌&&◌}
 use mathlib.Core.List.{List}
 use lib.Dec.{leb}
-use Rattle.machine.specs.State.{Machine, with_registers}
-use Rattle.machine.specs.Memory.{bytes_from, over_registers}
-use Rattle.machine.specs.Commands.{with_access_err, configured_from}
+use lib.ListN.{length}
+use Rattle.machine.specs.State.{Machine, LoadConfig, with_registers}
+use Rattle.machine.specs.Memory.{address_of, bytes_from, over_registers}
+use Rattle.machine.specs.Commands.{with_access_err, ended, argument, taken, configured_from, stepped_as}
 use Rattle.machine.proofs.WellFormed.Memory.{over_length}
 use Rattle.state.specs.View as state
 use Rattle.state.specs.View.{view_of}
@@ -17,6 +18,7 @@ use Rattle.state.specs.declared.Chip.{Chip}
 use Rattle.state.proofs.TurnLaws.{sized_registers}
 use Rattle.register_load.specs.Wrapped.{wrapped_from}
 use Rattle.register_load.proofs.LoadLaws.{unwrapped}
+use Rattle.command_arguments.proofs.ArgumentLaws.{all_held}
 
 -- The registers loaded from an address inside the EEPROM.
 abbrev loads_from : ℕ → Machine → Machine
@@ -40,3 +42,8 @@ module _ (address : ℕ) (m : Machine) where
 
   pub config_refuses : (leb 0x10 address && leb address 0x60) ≡ false → with_access_err m ≡ configured_from address m
   config_refuses is = simp is
+
+-- LoadConfig's step on a machine that holds k bytes, which are enough.
+pub step_loads : (m : Machine) {k : ℕ} → k ≡ length m.held → 2 ≤ k → (from : ℕ) → from ≡ address_of (argument 0 m) (argument 1 m) → ended (configured_from from (taken 2 m)) ≡ stepped_as LoadConfig m
+step_loads m held all from is =
+    ap (λ (a : ℕ). ended (configured_from a (taken 2 m))) is ∙ all_held 2 m m (ended (configured_from (address_of (argument 0 m) (argument 1 m)) (taken 2 m))) held all

@@ -9,7 +9,8 @@ ghost use Rattle.machine.specs.State.{LoadKeyE2, LoadKey};
 ghost use Rattle.machine.specs.Memory.{bytes_from};
 ghost use Rattle.machine.specs.Commands.{key_judged, key_from, stepped_as};
 ghost use Rattle.state.specs.View.{at, held_from, with_clocks, with_key, with_state};
-ghost use Rattle.state.specs.Turns.{Turns};
+ghost use Rattle.state.specs.Parts.{clocks_state_slots_key, clocks_state_slots_key_eeprom, state_key, state_key_eeprom};
+ghost use Rattle.state.specs.Turns.{Turns, TurnsAny};
 ghost use Rattle.command_load_key.specs.Emptied.{key_emptied};
 
 use command_arguments::{address, held_copied};
@@ -41,6 +42,7 @@ fn stored_key(eeprom: &[u8; 512], address: u16) -> [u8; 12]
 // KeyErr is set, and no key is loaded.
 fn key_emptied(chip: &mut Chip)
     ensures turns { Turns key_emptied chip.old chip.new }
+    ensures others { TurnsAny state_key key_emptied chip.old chip.new }
     ensures rest { chip.new ≡ with_state chip.new.state (with_key chip.new.key chip.old) }
 {
     chip.key = [0u8; 6];
@@ -51,6 +53,7 @@ fn key_emptied(chip: &mut Chip)
 // Twelve bytes are judged: the key that they stand for, or KeyErr and none.
 fn key_judged(chip: &mut Chip, bytes: [u8; 12])
     ensures turns { Turns (key_judged bytes) chip.old chip.new }
+    ensures others { TurnsAny state_key (key_judged bytes) chip.old chip.new }
     ensures rest { chip.new ≡ with_state chip.new.state (with_key chip.new.key chip.old) }
 {
     match key_of(bytes) {
@@ -65,6 +68,7 @@ fn key_judged(chip: &mut Chip, bytes: [u8; 12])
 // The twelve bytes of the EEPROM from an address on are judged; an address above 1F4h gives KeyErr and no key.
 fn key_from(chip: &mut Chip, address: u16)
     ensures turns { Turns (key_from address) chip.old chip.new }
+    ensures others { TurnsAny state_key_eeprom (key_from address) chip.old chip.new }
     ensures rest { chip.new ≡ with_state chip.new.state (with_key chip.new.key chip.old) }
 {
     if address > 0x1F4 {
@@ -78,6 +82,7 @@ fn key_from(chip: &mut Chip, address: u16)
 // LoadKeyE2: an address.
 pub fn load_key_e2(chip: &mut Chip)
     ensures turns { Turns (stepped_as LoadKeyE2) chip.old chip.new }
+    ensures others { TurnsAny clocks_state_slots_key_eeprom (stepped_as LoadKeyE2) chip.old chip.new }
     ensures rest { chip.new ≡ with_clocks chip.new.clocks (with_state chip.new.state (with_key chip.new.key chip.old)) }
 {
     if chip.held() < 2 {
@@ -92,6 +97,7 @@ pub fn load_key_e2(chip: &mut Chip)
 // LoadKey: twelve bytes, which are judged.
 pub fn load_key(chip: &mut Chip)
     ensures turns { Turns (stepped_as LoadKey) chip.old chip.new }
+    ensures others { TurnsAny clocks_state_slots_key (stepped_as LoadKey) chip.old chip.new }
     ensures rest { chip.new ≡ with_clocks chip.new.clocks (with_state chip.new.state (with_key chip.new.key chip.old)) }
 {
     if chip.held() < 12 {

@@ -10,7 +10,8 @@ ghost use Rattle.machine.specs.Fifo.{offered_all, lost_of};
 ghost use Rattle.machine.specs.Memory.{bytes_from};
 ghost use Rattle.machine.specs.Commands.{readable, read_from, stepped_as, lost_as};
 ghost use Rattle.state.specs.View.{with_clocks, with_numbers, with_slots, with_state};
-ghost use Rattle.state.specs.Turns.{TurnsLosing};
+ghost use Rattle.state.specs.Parts.{clocks_numbers_state_slots_eeprom, numbers_state_slots_eeprom};
+ghost use Rattle.state.specs.Turns.{TurnsLosing, TurnsLosingAny};
 ghost use Rattle.command_read_e2.specs.Reading.{lost_reading};
 
 use command_arguments::address;
@@ -22,6 +23,8 @@ fn offered_memory(chip: &mut Chip, address: u16, count: u8) -> u8
     requires { readable address count ≡ true }
     ensures turns { let bytes = bytes_from chip.old.eeprom address count in
         TurnsLosing (offered_all bytes) (lost_of bytes) chip.old chip.new result }
+    ensures others { let bytes = bytes_from chip.old.eeprom address count in
+        TurnsLosingAny numbers_state_slots_eeprom (offered_all bytes) (lost_of bytes) chip.old chip.new result }
     ensures small { result ≤ 128 }
     ensures rest { chip.new ≡ with_numbers chip.new.numbers (with_state chip.new.state (with_slots chip.new.slots chip.old)) }
 {
@@ -40,6 +43,7 @@ fn offered_memory(chip: &mut Chip, address: u16, count: u8) -> u8
 // lost.
 fn read_from(chip: &mut Chip, address: u16, count: u8) -> u8
     ensures turns { TurnsLosing (read_from address count) (lost_reading address count) chip.old chip.new result }
+    ensures others { TurnsLosingAny numbers_state_slots_eeprom (read_from address count) (lost_reading address count) chip.old chip.new result }
     ensures small { result ≤ 128 }
     ensures rest { chip.new ≡ with_numbers chip.new.numbers (with_state chip.new.state (with_slots chip.new.slots chip.old)) }
 {
@@ -53,6 +57,7 @@ fn read_from(chip: &mut Chip, address: u16, count: u8) -> u8
 // ReadE2: an address and a count. Answers how many bytes were lost.
 pub fn read_e2(chip: &mut Chip) -> u8
     ensures turns { TurnsLosing (stepped_as ReadE2) (lost_as ReadE2) chip.old chip.new result }
+    ensures others { TurnsLosingAny clocks_numbers_state_slots_eeprom (stepped_as ReadE2) (lost_as ReadE2) chip.old chip.new result }
     ensures small { result ≤ 128 }
     ensures rest { chip.new ≡ with_clocks chip.new.clocks (with_numbers chip.new.numbers (with_state chip.new.state (with_slots chip.new.slots chip.old))) }
 {

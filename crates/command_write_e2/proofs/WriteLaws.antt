@@ -44,7 +44,7 @@ module _ (old : Chip) (latch : List ℕ) (left next latched : ℕ) where
   abbrev written : List ℕ
   written = set (set old.state 10 latched) 12 0x41
 
-  abbrev after : Chip
+  abbrev pub after : Chip
   after = with_clocks (set old.clocks 1 left) (with_numbers (set old.numbers 1 next) (with_state written (with_latch latch old)))
 
   pub write_stored : (w : Writing) → Sizes old → length latch ≡ 16 →

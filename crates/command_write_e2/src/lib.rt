@@ -8,7 +8,8 @@ ghost use Rattle.machine.specs.State.{addressing, ready};
 ghost use Rattle.machine.specs.Memory.{room_in_block};
 ghost use Rattle.machine.specs.Commands.{write_stepped};
 ghost use Rattle.state.specs.View.{at, batch_start, held_from, view, with_clocks, with_latch, with_numbers, with_state};
-ghost use Rattle.state.specs.Turns.{Sizes, Turns};
+ghost use Rattle.state.specs.Parts.{clocks_numbers_state_slots, clocks_numbers_state_slots_latch};
+ghost use Rattle.state.specs.Turns.{Sizes, Turns, TurnsAny};
 ghost use Rattle.command_write_e2.specs.Next.{next_after};
 
 use command_arguments::{address, held_copied};
@@ -18,6 +19,7 @@ use state_fifo::taken;
 // WriteE2 waits for its address: the first two held bytes are it.
 pub fn address_taken(chip: &mut Chip)
     ensures turns { Turns (write_stepped addressing) chip.old chip.new }
+    ensures others { TurnsAny clocks_numbers_state_slots (write_stepped addressing) chip.old chip.new }
     ensures next { Sizes chip.old → at chip.new.numbers 1 ≡ next_after (at chip.old.numbers 1) (view chip.old) }
     ensures rest { chip.new ≡ with_clocks chip.new.clocks (with_numbers chip.new.numbers (with_state chip.new.state chip.old)) }
 {
@@ -53,6 +55,8 @@ fn latch_bytes(latch: &mut [u8; 16], slots: &[u8; 64], position: u8, count: u8)
 pub fn bytes_latched(chip: &mut Chip)
     ensures turns { let next = at chip.old.numbers 1 in
         Turns (write_stepped (ready (next % 0x200))) chip.old chip.new }
+    ensures others { let next = at chip.old.numbers 1 in
+        TurnsAny clocks_numbers_state_slots_latch (write_stepped (ready (next % 0x200))) chip.old chip.new }
     ensures rest { chip.new ≡ with_clocks chip.new.clocks (with_numbers chip.new.numbers (with_state chip.new.state (with_latch chip.new.latch chip.old))) }
 {
     let waiting = chip.held();

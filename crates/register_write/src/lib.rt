@@ -7,7 +7,8 @@ ghost use Rattle.std.specs.Prelude.{◌/◌, ◌<◌, ◌≡◌};
 ghost use Rattle.machine.specs.Fifo.{flushed, alerted};
 ghost use Rattle.machine.specs.Registers.{interrupts_written, register_written};
 ghost use Rattle.state.specs.View.{interrupts_of, with_clocks, with_numbers, with_registers, with_state};
-ghost use Rattle.state.specs.Turns.{Turns};
+ghost use Rattle.state.specs.Parts.{clocks_numbers_state, clocks_numbers_state_registers, numbers_state_registers, state_registers};
+ghost use Rattle.state.specs.Turns.{Turns, TurnsAny};
 ghost use Rattle.register_write.specs.Written.{other_written, ModeWritten, both_written};
 
 use state::{
@@ -33,6 +34,7 @@ fn marked_bits(old: u8, v: u8) -> u8
 // FIFOLevel is written, and the alerts are judged by the new WaterLevel.
 fn level_written(chip: &mut Chip, v: u8)
     ensures turns { Turns (λ m. alerted m (register_written 0x29 v m)) chip.old chip.new }
+    ensures others { TurnsAny state_registers (λ m. alerted m (register_written 0x29 v m)) chip.old chip.new }
     ensures rest { chip.new ≡ with_state chip.new.state (with_registers chip.new.registers chip.old) }
 {
     let before = alerts_of(chip);
@@ -43,6 +45,7 @@ fn level_written(chip: &mut Chip, v: u8)
 // FlushFIFO: no byte is held, FIFOOvfl and the sum of lost bytes are cleared, and the alerts are judged.
 fn flushed(chip: &mut Chip)
     ensures turns { Turns (λ m. alerted m (flushed m)) chip.old chip.new }
+    ensures others { TurnsAny numbers_state_registers (λ m. alerted m (flushed m)) chip.old chip.new }
     ensures rest { chip.new ≡ with_numbers chip.new.numbers (with_state chip.new.state chip.old) }
 {
     let before = alerts_of(chip);
@@ -91,6 +94,7 @@ impl Mode {
 // StandBy and PowerDown (manual 9.10), each by its own bit of the byte written. Nothing is to be done where both are off and stay so.
 fn modes_written(chip: &mut Chip, v: u8)
     ensures turns { Turns (both_written v) chip.old chip.new }
+    ensures others { TurnsAny clocks_numbers_state (both_written v) chip.old chip.new }
     ensures rest { chip.new ≡ with_numbers chip.new.numbers (with_state chip.new.state chip.old) }
 {
     let control = chip.state[CONTROL];
@@ -118,6 +122,7 @@ fn modes_written(chip: &mut Chip, v: u8)
 // Control is written (manual 2.4): the FIFO is flushed, the timer stopped and then started, as bits 0, 2 and 1 say; bits 5 and 4 are the power modes'.
 fn control_written(chip: &mut Chip, v: u8)
     ensures turns { Turns (λ m. alerted m (register_written 0x09 v m)) chip.old chip.new }
+    ensures others { TurnsAny clocks_numbers_state_registers (λ m. alerted m (register_written 0x09 v m)) chip.old chip.new }
     ensures rest { chip.new ≡ with_clocks chip.new.clocks (with_numbers chip.new.numbers (with_state chip.new.state chip.old)) }
 {
     if v % 2 == 1 {
@@ -136,6 +141,7 @@ fn control_written(chip: &mut Chip, v: u8)
 // that a write does not change.
 pub fn register_written(chip: &mut Chip, register: u8, v: u8)
     ensures turns { Turns (λ m. alerted m (other_written register v m)) chip.old chip.new }
+    ensures others { TurnsAny clocks_numbers_state_registers (λ m. alerted m (other_written register v m)) chip.old chip.new }
     ensures rest { chip.new ≡ with_clocks chip.new.clocks (with_numbers chip.new.numbers (with_state chip.new.state (with_registers chip.new.registers chip.old))) }
 {
     if register % 8 == 0 {

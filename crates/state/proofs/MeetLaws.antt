@@ -1,4 +1,4 @@
--- From an event's work on the arrays to its promise: a call that is refused, and one that is not.
+-- From an event's work on a chip to its promise: a call that is refused, and one that is not.
 -- Assumes nothing.
 use Rattle.std.proofs.Common.{◌≡◌, ℕ, suc, ◌/◌, ◌%◌, ◌<◌, ◌≤◌, Bool, true, false, cond, not, ◌&&◌, ◌||◌, eqb, ltb, List, length, sym, refl, ap, ◌∙◌, subst, arith, ltb-true, le-ltb, lt-ltb}
 use Rattle.edition.specs.Edition.{of_either}

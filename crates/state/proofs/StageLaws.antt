@@ -6,8 +6,10 @@ use Rattle.machine.specs.State.{Command, Writing, Idle, WriteE2, ReadE2, LoadCon
 use Rattle.machine.specs.Commands.{programs}
 use Rattle.machine.specs.Frames.{sending, receiving}
 use Rattle.machine.proofs.Cases.{by_cond}
-use Rattle.state.specs.View.{Core, writing_of, command_of}
+use Rattle.state.specs.View.{Core, writing_of, command_of, core, view, view_of}
+use Rattle.state.specs.Parts.{clocks_state}
 use Rattle.state.specs.Formed.{writes}
+use Rattle.state.specs.declared.Chip.{Chip}
 
 -- No stage but Idle's.
 pub record Other (s : ℕ) : Type 0 where
@@ -57,3 +59,8 @@ stage_programs k latch =
   where
     none : false ≡ (not (eqb k.left 0) && false)
     none = sym (and-false (not (eqb k.left 0)))
+
+-- It goes by the clocks left and the stage, and so is the same whatever the other arrays are.
+pub programs_any : (of c : Chip) → programs (view of).command ≡ programs (view (clocks_state of c)).command
+unfolding view_of
+programs_any of c = stage_programs (core of) of.latch ∙ sym (stage_programs (core (clocks_state of c)) c.latch)

@@ -1,6 +1,6 @@
 -- Turns of the machine, one after the other, and the lengths of arrays.
 -- Assumes nothing.
-use Rattle.std.proofs.Common.{◌≡◌, ℕ, List, length, refl, ap, ◌∙◌}
+use Rattle.std.proofs.Common.{◌≡◌, ℕ, List, length, refl, sym, ap, ◌∙◌}
 use Rattle.machine.specs.State.{Machine}
 use Rattle.state.specs.View.{view, with_clocks, with_numbers, with_state, with_registers, with_slots, with_latch, with_key, with_eeprom}
 use Rattle.state.specs.Turns.{Sizes, Turned}
@@ -17,6 +17,18 @@ then {f} {g} first second = record { machine = second.machine ∙ ap g first.mac
 -- A turn is also one by what gives the same of the machine before it.
 pub becomes : {f : Machine → Machine} {a b : Chip} (g : Machine → Machine) → Turned f a b → f (view a) ≡ g (view a) → Turned g a b
 becomes g turn e = record { machine = turn.machine ∙ e; sizes = turn.sizes; fields = turn.fields }
+
+-- A turn to a chip is one to what that chip is known to be.
+pub here : {f : Machine → Machine} {a b d : Chip} → d ≡ b → Turned f a b → Turned f a d
+here {f} {a} e turn = record { machine = ap view e ∙ turn.machine; sizes = rw e turn.sizes; fields = rw e turn.fields }
+
+-- What is promised whatever the other arrays are, put as a caller puts them: `w` is what the chip after is known to be.
+pub onto : {f : Machine → Machine} {x b w : Chip} (lent : Chip → Chip → Chip) (on : Chip → Chip) → b ≡ w → lent w x ≡ on w → Turned f x (lent b x) → Turned f x (on b)
+onto {x} lent on e same = here (ap on e ∙ sym (ap (λ (d : Chip). lent d x) e ∙ same))
+
+-- And of the chip's own.
+pub own : {f : Machine → Machine} {a b w : Chip} (lent : Chip → Chip → Chip) → b ≡ w → lent w a ≡ w → Turned f a (lent b a) → Turned f a b
+own lent = onto lent (λ d. d)
 
 -- A chip with an array of the same length anew.
 module _ {c : Chip} (s : Sizes c) (l : List ℕ) where

@@ -1,4 +1,5 @@
 pub mod View
+pub mod Parts
 pub mod Formed
 pub mod Turns
 pub mod Meets

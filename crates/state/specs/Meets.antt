@@ -1,4 +1,4 @@
--- What every event promises, on the arrays, by value or in place: one relation between the chip, the call, the next chip, the number answered and
+-- What every event promises, on a chip lent, by value or in place: one relation between the chip, the call, the next chip, the number answered and
 -- the buffer lent. It says, for every input: refused, so the number, and chip and buffer exactly as before; else the answer, the next machine
 -- and every byte lent are what the definition gives, and the next chip is well formed again. What no definition decides is free where a call is
 -- accepted, and as before where it is refused: ring positions, slots beyond the held bytes, latch bytes beyond the count, the latched count where
@@ -46,7 +46,7 @@ pub record Whole (c : Chip) : Type 0 where
   pub sizes : Sizes c
   pub sized : Sized (view c)
 
--- What an event on lent arrays promises. A contract doesn't see how long a lent array is, so this takes it from the caller, and says it of the
+-- What an event on a chip lent promises. A contract doesn't see how long a lent array is, so this takes it from the caller, and says it of the
 -- next chip too. A function that has the chip by value knows it by the type, and promises `Meets` with nothing before it.
 abbrev pub Promises : Chip → Call → Chip → ℕ → List ℕ → Type 0
 Promises c call next answer buffer = Whole c → Meets c call next answer buffer × Whole next

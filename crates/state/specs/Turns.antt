@@ -1,4 +1,4 @@
--- What a function on some of the arrays promises, whatever the others are.
+-- What a function on a chip promises, and, where it looks at some of the arrays alone, what it promises whatever the others are.
 -- Assumes nothing.
 use Rattle.std.specs.Prelude.{◌≡◌, ℕ, ◌<◌, Bool, true, List, length}
 use Rattle.bits.specs.Bits.{bit_set}
@@ -28,9 +28,16 @@ pub record Turned (f : Machine → Machine) (before after : Chip) : Type 0 where
 abbrev pub Turns : (Machine → Machine) → Chip → Chip → Type 0
 Turns f before after = Sizes before → Turned f before after
 
+-- The same, whatever the arrays are that a function doesn't look at: `lent` puts the others, those that it looks at or changes, into any chip.
+abbrev pub TurnsAny : (Chip → Chip → Chip) → (Machine → Machine) → Chip → Chip → Type 0
+TurnsAny lent f before after = (c : Chip) → Turns f (lent before c) (lent after c)
+
 -- A function that turns the machine, and answers how many bytes were lost on the way, which `lost` gives of the machine before.
 abbrev pub TurnsLosing : (Machine → Machine) → (Machine → ℕ) → Chip → Chip → ℕ → Type 0
 TurnsLosing f lost before after r = Sizes before → Turned f before after × (r ≡ lost (view before))
+
+abbrev pub TurnsLosingAny : (Chip → Chip → Chip) → (Machine → Machine) → (Machine → ℕ) → Chip → Chip → ℕ → Type 0
+TurnsLosingAny lent f lost before after r = (c : Chip) → TurnsLosing f lost (lent before c) (lent after c) r
 
 -- A function that reads: its answer is what a definition gives of the machine.
 abbrev pub Reads : {A : Type 0} → (Machine → A) → Chip → A → Type 0

@@ -71,7 +71,7 @@ impl Coded for () {
     ghost answer = { done_answer };
 
     fn code(self) -> u32 {
-        0
+        0 // a call that is done, and answers nothing more
     }
 }
 

@@ -7,7 +7,8 @@
 
 ghost use Rattle.std.specs.Prelude.{◌≡◌, ◌+◌, ◌*◌, ◌^◌};
 ghost use Rattle.state.specs.View.{raised, marked, unmarked, with_clocks, with_state};
-ghost use Rattle.state.specs.Turns.{Turns, Reads, Counts, Holds, ControlIs};
+ghost use Rattle.state.specs.Parts.{state_part, clocks_state};
+ghost use Rattle.state.specs.Turns.{Turns, TurnsAny, Reads, Counts, Holds, ControlIs};
 ghost use Rattle.machine.specs.Commands.{programs, ended};
 ghost use Rattle.machine.specs.Frames.{receiving, frame_waits};
 ghost use Rattle.machine.specs.Events.{lost};
@@ -192,6 +193,7 @@ impl Chip {
     // Requests of a mask's bits 5-0 are set in InterruptRq. The byte is stored only where one is new: a store delays the next load of a word that holds it.
     pub fn requested(&mut self, mask: u8)
         ensures turns { Turns (raised mask) self.old self.new }
+        ensures others { TurnsAny state_part (raised mask) self.old self.new }
         ensures rest { self.new ≡ with_state self.new.state self.old }
     {
         let requests = self.state[REQUESTS];
@@ -204,6 +206,7 @@ impl Chip {
     // Flags of a mask are set in ErrorFlag, but for bits that always read 0.
     pub fn failed(&mut self, mask: u8)
         ensures turns { Turns (marked mask) self.old self.new }
+        ensures others { TurnsAny state_part (marked mask) self.old self.new }
         ensures rest { self.new ≡ with_state self.new.state self.old }
     {
         self.state[ERRORS] = self.state[ERRORS] | (mask & 0x7A);
@@ -212,6 +215,7 @@ impl Chip {
     // Flags of a mask are cleared in ErrorFlag. The byte is stored only where one is set.
     pub fn cleared(&mut self, mask: u8)
         ensures turns { Turns (unmarked mask) self.old self.new }
+        ensures others { TurnsAny state_part (unmarked mask) self.old self.new }
         ensures rest { self.new ≡ with_state self.new.state self.old }
     {
         if self.state[ERRORS] & mask != 0 {
@@ -222,6 +226,7 @@ impl Chip {
     // The command ends: Idle, which programs nothing, and IdleIRq.
     pub fn ended(&mut self)
         ensures turns { Turns ended self.old self.new }
+        ensures others { TurnsAny clocks_state ended self.old self.new }
         ensures rest { self.new ≡ with_clocks self.new.clocks (with_state self.new.state self.old) }
     {
         self.clocks[LEFT] = 0;

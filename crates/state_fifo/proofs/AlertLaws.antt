@@ -1,13 +1,16 @@
 -- Laws of the alerts: those that are new make the requests that an event's end sets.
 -- Assumes nothing.
-use Rattle.std.proofs.Common.{◌≡◌, ℕ, ◌+◌, ◌-◌, ◌*◌, Bool, true, false, not, ◌&&◌, ◌||◌, leb, length, refl, ap, ◌∙◌}
+use Rattle.std.proofs.Common.{◌≡◌, ℕ, ◌+◌, ◌-◌, ◌*◌, Bool, true, false, not, ◌&&◌, ◌||◌, leb, length, refl, sym, ap, ◌∙◌}
 use mathlib.Core.Bool.{or-true, or-false}
 use lib.Bits.{bit_and}
 use Rattle.machine.specs.State.{Machine, with_requests}
 use Rattle.machine.specs.Fifo.{water_level, lo_alert, hi_alert, alerted}
 use Rattle.machine.specs.Registers.{flag}
-use Rattle.state.specs.View.{raised}
-use Rattle.state_fifo.specs.Alerts.{alerts_of, alerted_from}
+use Rattle.state.specs.View.{at, held_count, raised, view, view_of}
+use Rattle.state.specs.Parts.{state_registers}
+use Rattle.state.specs.declared.Chip.{Chip}
+use Rattle.state.proofs.RingLaws.{held_length}
+use Rattle.state_fifo.specs.Alerts.{alert_bits, alerts_of, alerted_from}
 
 -- The alerts that are new, as bits.
 fresh_bits : (hi lo hi' lo' : Bool) → bit_and (2 * flag hi' + flag lo') (255 - (2 * flag hi + flag lo)) ≡ 2 * flag (not hi && hi') + flag (not lo && lo')
@@ -67,3 +70,11 @@ never false = refl
 pub alerted_same : (m : Machine) → alerted m m ≡ m
 unfolding alerted
 alerted_same m = simp (never (hi_alert m), never (lo_alert m), or-false)
+
+-- The alerts go by how many bytes are held, and so are the same whatever the slots are.
+pub alerts_any : (of c : Chip) → alerts_of (view of) ≡ alerts_of (view (state_registers of c))
+unfolding view_of
+alerts_any of c =
+    let read = at of.state 13 in
+    let count = held_count read (at of.state 14) in
+    ap (λ (n : ℕ). alert_bits n (water_level (view of))) (held_length of.slots read count ∙ sym (held_length c.slots read count))

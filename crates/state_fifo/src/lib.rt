@@ -9,7 +9,8 @@ ghost use Rattle.machine.specs.Fifo.{first_of, rest_of, one_lost, lost_at, lost_
 ghost use Rattle.machine.specs.Commands.{argument, taken};
 ghost use Rattle.machine.specs.Registers.{flag};
 ghost use Rattle.state.specs.View.{with_numbers, with_slots, with_state};
-ghost use Rattle.state.specs.Turns.{Turns, TurnsLosing, Reads, Holds};
+ghost use Rattle.state.specs.Parts.{numbers_state, numbers_state_registers_slots, numbers_state_slots, state_part, state_registers, state_registers_slots, state_slots};
+ghost use Rattle.state.specs.Turns.{Turns, TurnsAny, TurnsLosing, TurnsLosingAny, Reads, Holds};
 ghost use Rattle.state_fifo.specs.Alerts.{alert_bits, alerts_of, alerted_from};
 
 use state::{Chip, LOST_SUM, READ, WRITE};
@@ -28,6 +29,7 @@ pub fn argument(chip: &Chip, k: u8) -> u8
 // No byte is held.
 pub fn emptied(chip: &mut Chip)
     ensures turns { Turns (with_held []) chip.old chip.new }
+    ensures others { TurnsAny state_part (with_held []) chip.old chip.new }
     ensures rest { chip.new ≡ with_state chip.new.state chip.old }
 {
     chip.state[READ] = chip.state[WRITE];
@@ -36,6 +38,7 @@ pub fn emptied(chip: &mut Chip)
 // The first `count` bytes leave, or all where fewer are held.
 pub fn taken(chip: &mut Chip, count: u8)
     ensures turns { Turns (taken count) chip.old chip.new }
+    ensures others { TurnsAny state_part (taken count) chip.old chip.new }
     ensures rest { chip.new ≡ with_state chip.new.state chip.old }
 {
     if chip.held() <= count {
@@ -48,6 +51,7 @@ pub fn taken(chip: &mut Chip, count: u8)
 // A byte is lost: FIFOOvfl is set, and the sum of lost bytes is one more, up to 65,535.
 fn one_lost(chip: &mut Chip)
     ensures turns { Turns one_lost chip.old chip.new }
+    ensures others { TurnsAny numbers_state one_lost chip.old chip.new }
     ensures rest { chip.new ≡ with_numbers chip.new.numbers (with_state chip.new.state chip.old) }
 {
     chip.failed(0x10);
@@ -57,6 +61,7 @@ fn one_lost(chip: &mut Chip)
 // A byte is stored behind those held, which are fewer than 64.
 fn stored(chip: &mut Chip, byte: u8)
     ensures turns { (n : ℕ) → Holds chip.old.state n → n < 64 → Turns (offered byte) chip.old chip.new }
+    ensures others { (n : ℕ) → Holds chip.old.state n → n < 64 → TurnsAny state_slots (offered byte) chip.old chip.new }
     ensures rest { chip.new ≡ with_state chip.new.state (with_slots chip.new.slots chip.old) }
 {
     let write = chip.state[WRITE];
@@ -68,6 +73,7 @@ fn stored(chip: &mut Chip, byte: u8)
 // A byte is offered: it is stored behind those held, or lost where 64 or more are held. Answers how many bytes were lost.
 pub fn offered(chip: &mut Chip, byte: u8) -> u8
     ensures turns { TurnsLosing (offered byte) lost_at chip.old chip.new result }
+    ensures others { TurnsLosingAny numbers_state_slots (offered byte) lost_at chip.old chip.new result }
     ensures small { result ≤ 1 }
     ensures rest { chip.new ≡ with_numbers chip.new.numbers (with_state chip.new.state (with_slots chip.new.slots chip.old)) }
 {
@@ -82,6 +88,7 @@ pub fn offered(chip: &mut Chip, byte: u8) -> u8
 // Bytes are offered in order. Answers how many were lost.
 pub fn offered_all(chip: &mut Chip, bytes: &[u8]) -> usize
     ensures turns { TurnsLosing (offered_all bytes.now) (lost_of bytes.now) chip.old chip.new result }
+    ensures others { TurnsLosingAny numbers_state_slots (offered_all bytes.now) (lost_of bytes.now) chip.old chip.new result }
     ensures small { result ≤ length bytes.now }
     ensures rest { chip.new ≡ with_numbers chip.new.numbers (with_state chip.new.state (with_slots chip.new.slots chip.old)) }
 {
@@ -128,6 +135,7 @@ pub fn alerts_of(chip: &Chip) -> u8
 // An event is over: the requests for the alerts that are 1 now and were 0 before it.
 pub fn alerted(chip: &mut Chip, before: u8)
     ensures turns { Turns (alerted_from before) chip.old chip.new }
+    ensures others { TurnsAny state_registers (alerted_from before) chip.old chip.new }
     ensures rest { chip.new ≡ with_state chip.new.state chip.old }
 {
     chip.requested(alerts_of(chip) & !before);
@@ -137,6 +145,7 @@ pub fn alerted(chip: &mut Chip, before: u8)
 pub fn fifo_read(chip: &mut Chip) -> u8
     ensures reads { Reads (λ m. first_of m.held) chip.old result }
     ensures turns { Turns (λ m. alerted m (with_held (rest_of m.held) m)) chip.old chip.new }
+    ensures others { TurnsAny state_registers_slots (λ m. alerted m (with_held (rest_of m.held) m)) chip.old chip.new }
     ensures rest { chip.new ≡ with_state chip.new.state chip.old }
 {
     let count = chip.held();
@@ -154,6 +163,7 @@ pub fn fifo_read(chip: &mut Chip) -> u8
 // A write of FIFOData where the byte waits: it is stored, or lost, and the alerts are judged. Answers how many bytes were lost.
 pub fn fifo_written(chip: &mut Chip, byte: u8) -> u8
     ensures turns { TurnsLosing (λ m. alerted m (offered byte m)) lost_at chip.old chip.new result }
+    ensures others { TurnsLosingAny numbers_state_registers_slots (λ m. alerted m (offered byte m)) lost_at chip.old chip.new result }
     ensures rest { chip.new ≡ with_numbers chip.new.numbers (with_state chip.new.state (with_slots chip.new.slots chip.old)) }
 {
     let count = chip.held();

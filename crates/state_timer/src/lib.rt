@@ -8,7 +8,8 @@ ghost use Rattle.bits.specs.Bits.{bit_set};
 ghost use Rattle.machine.specs.State.{Timer, with_timer};
 ghost use Rattle.machine.specs.Timer.{timer_stopped, timer_started};
 ghost use Rattle.state.specs.View.{with_clocks, with_state};
-ghost use Rattle.state.specs.Turns.{Turns};
+ghost use Rattle.state.specs.Parts.{clocks_state, clocks_state_registers};
+ghost use Rattle.state.specs.Turns.{Turns, TurnsAny};
 
 use state::{Chip, PHASE, PRESCALER, RUNNING, VALUE};
 
@@ -16,6 +17,8 @@ use state::{Chip, PHASE, PRESCALER, RUNNING, VALUE};
 fn timer_set(chip: &mut Chip, running: bool, value: u8, prescaler: u8)
     ensures turns { let timer : Timer = record { running = running; value = value; prescaler = prescaler; phase = 0 } in
         Turns (with_timer timer) chip.old chip.new }
+    ensures others { let timer : Timer = record { running = running; value = value; prescaler = prescaler; phase = 0 } in
+        TurnsAny clocks_state (with_timer timer) chip.old chip.new }
     ensures rest { chip.new ≡ with_clocks chip.new.clocks (with_state chip.new.state chip.old) }
 {
     chip.clocks[PHASE] = 0;
@@ -27,6 +30,7 @@ fn timer_set(chip: &mut Chip, running: bool, value: u8, prescaler: u8)
 // The timer stops, and its value stays.
 pub fn timer_stopped(chip: &mut Chip)
     ensures turns { Turns timer_stopped chip.old chip.new }
+    ensures others { TurnsAny clocks_state timer_stopped chip.old chip.new }
     ensures rest { chip.new ≡ with_clocks chip.new.clocks (with_state chip.new.state chip.old) }
 {
     let value = chip.state[VALUE];
@@ -36,6 +40,7 @@ pub fn timer_stopped(chip: &mut Chip)
 // TimerReload and TPreScaler are loaded; a reload of 0 and a prescaler above 21 stop the timer at 0.
 pub fn timer_started(chip: &mut Chip)
     ensures turns { Turns timer_started chip.old chip.new }
+    ensures others { TurnsAny clocks_state_registers timer_started chip.old chip.new }
     ensures rest { chip.new ≡ with_clocks chip.new.clocks (with_state chip.new.state chip.old) }
 {
     let reload = chip.registers[0x2C - 0x10];

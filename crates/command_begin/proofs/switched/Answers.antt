@@ -8,17 +8,18 @@ use lib.ListN.{set, length-set}
 use Rattle.machine.specs.State.{Command, with_command}
 use Rattle.machine.proofs.WellFormed.Parts.{both, each}
 use Rattle.state.specs.View.{view, view_of, with_clocks, with_state}
+use Rattle.state.specs.Parts.{clocks_state}
 use Rattle.state.specs.Formed.{listed, writes}
 use Rattle.state.proofs.StoreLaws.{at_set, at_set_two, stored, next_near, others_agree}
 use Rattle.state.proofs.TurnLaws.{sized_clocks, sized_state}
 use Rattle.command_begin.specs.Begins.{begun}
 use Rattle.command_begin.proofs.switched.Goals as goal
 
-pub returns-clause-turns : goal.returns-clause-turns
+pub returns-clause-others : goal.returns-clause-others
 unfolding view_of
-returns-clause-turns c begin sizes =
+returns-clause-others c begin chip sizes =
     let stage = c.args.stage in
-    let old = c.args.chip.now in
+    let old = clocks_state c.args.chip.now chip in
     let parts = each (listed stage) _ begin in
     let clocks = set old.clocks 1 0 in
     let staged = set old.state 12 stage in
@@ -29,3 +30,6 @@ returns-clause-turns c begin sizes =
     (sized_clocks (sized_state sizes l (length-set staged 10 0 ∙ length-set old.state 12 stage ∙ sizes.state_count)) clocks (length-set old.clocks 1 0 ∙ sizes.clock_count))
     (ap (λ (x : Command). with_command x (view old)) (simp (not-true (eqb stage 0x41) parts.1)))
     (λ formed. both (both parts.0 (both (ap not (and-false (writes stage))) (next_near old formed))) (others_agree old formed))
+
+pub returns-clause-turns : goal.returns-clause-turns
+returns-clause-turns c begin sizes = returns-clause-others c begin c.args.chip.now sizes

@@ -8,3 +8,7 @@ use Rattle.state_timer.proofs.timer_stopped.Goals as goal
 pub returns-clause-turns : goal.returns-clause-turns
 unfolding view_of
 returns-clause-turns c sizes = becomes timer_stopped (c.timer_set.ensures.turns sizes) refl
+
+pub returns-clause-others : goal.returns-clause-others
+unfolding view_of
+returns-clause-others c chip sizes = becomes timer_stopped (c.timer_set.ensures.others chip sizes) refl

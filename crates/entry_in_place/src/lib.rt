@@ -99,8 +99,8 @@ pub fn mfrc531_choose(user: &[u8], rescue: &[u8]) -> u32
     ensures { result ≡ choice_number (chosen user.now rescue.now) }
 {
     match profile_choice::choose(user, rescue) {
-        Ok(Choice::User(_)) => 0x100,
-        Ok(Choice::Rescue(_)) => 0x200,
+        Ok(Choice::User) => 0x100,
+        Ok(Choice::Rescue) => 0x200,
         Err(refusal) => u32::from(refusal),
     }
 }

@@ -45,14 +45,9 @@ part_of from_user user rescue = start_up_profile user
 part_of from_rescue user rescue = start_up_profile rescue
 part_of (refused n) user rescue = []
 
--- What each case of the program's enums stands for, and the profile that it has.
+-- What each case of the program's enums stands for.
 abbrev pub chosen_of : Result Choice Refusal → Chosen
-chosen_of (Ok (User profile)) = from_user
-chosen_of (Ok (Rescue profile)) = from_rescue
+chosen_of (Ok User) = from_user
+chosen_of (Ok Rescue) = from_rescue
 chosen_of (Err ImageLength) = refused 2
 chosen_of (Err BothFail) = refused 8
-
-abbrev pub profile_of : Result Choice Refusal → List ℕ
-profile_of (Ok (User profile)) = profile.now
-profile_of (Ok (Rescue profile)) = profile.now
-profile_of (Err refusal) = []

@@ -1,5 +1,8 @@
 // The choice for a safe start (manual 11.5): the user's start-up profile where it passes the check, else the rescue image's. Each image is judged by its own
-// edition. A choice has the profile itself, the 32 bytes of the image that it stands in.
+// edition.
+//
+// `choose` answers whose profile it is or why there is none, and keeps neither image lent; `chosen` hands back the profile itself, the 32 bytes of the image that
+// it stands in, which keeps both lent while it is held.
 
 #![tactic(auto)]
 
@@ -7,15 +10,15 @@ ghost use Rattle.std.specs.Prelude.{◌≡◌, true, false, length, MatchOption,
 ghost use Rattle.edition.specs.Edition.{fixed_bits};
 ghost use Rattle.profile.specs.Answer.{is_pass};
 ghost use Rattle.profile.specs.Check.{judged};
-ghost use Rattle.profile_choice.specs.Choice.{start_up_profile, passing, refused, chosen_of, profile_of, has_profile, part_of, chosen};
+ghost use Rattle.profile_choice.specs.Choice.{start_up_profile, passing, refused, chosen_of, has_profile, part_of, chosen};
 
 use edition::Edition;
 
-// Whose profile it is, and the profile.
-#[derive(Clone, Copy)]
-pub enum Choice<'a> {
-    User(&'a [u8]),
-    Rescue(&'a [u8]),
+// Whose profile it is.
+#[derive(Clone, Copy, Debug, PartialEq, Eq)]
+pub enum Choice {
+    User,
+    Rescue,
 }
 
 // Why there is none.
@@ -57,30 +60,30 @@ fn passes(image: &[u8]) -> bool
     }
 }
 
-// The start-up profile that is chosen, or the refusal.
-pub fn choose<'a>(user: &'a [u8], rescue: &'a [u8]) -> Result<Choice<'a>, Refusal>
-    ensures whose { chosen_of result ≡ chosen user.now rescue.now }
-    ensures part { profile_of result ≡ part_of (chosen user.now rescue.now) user.now rescue.now }
+// Whose start-up profile is chosen, or the refusal.
+pub fn choose(user: &[u8], rescue: &[u8]) -> Result<Choice, Refusal>
+    ensures { chosen_of result ≡ chosen user.now rescue.now }
 {
     if user.len() != 512 || rescue.len() != 512 {
         return Err(Refusal::ImageLength);
     }
     if passes(user) {
-        return Ok(Choice::User(&user[0x10..0x30]));
+        return Ok(Choice::User);
     }
     if passes(rescue) {
-        return Ok(Choice::Rescue(&rescue[0x10..0x30]));
+        return Ok(Choice::Rescue);
     }
     Err(Refusal::BothFail)
 }
 
-// The chosen profile alone, as a part of the image that it stands in.
+// The chosen profile, as a part of the image that it stands in.
 pub fn chosen<'a>(user: &'a [u8], rescue: &'a [u8]) -> Option<&'a [u8]>
     ensures { let choice = chosen user.now rescue.now in
         MatchOption result (has_profile choice ≡ false) (λ profile. (has_profile choice ≡ true) × (profile.now ≡ part_of choice user.now rescue.now)) }
 {
     match choose(user, rescue) {
-        Ok(Choice::User(profile) | Choice::Rescue(profile)) => Some(profile),
+        Ok(Choice::User) => Some(&user[0x10..0x30]),
+        Ok(Choice::Rescue) => Some(&rescue[0x10..0x30]),
         Err(_) => None,
     }
 }

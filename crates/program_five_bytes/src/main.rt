@@ -62,9 +62,12 @@ fn show(rt: &impl Print, chip: Chip, clock: u32) -> io::Result<()> {
     let ready = read(chip, SECONDARY_STATUS) / 0x40 % 2;
     let tx = read(chip, INTERRUPT_RQ) / 0x10 % 2;
     let held = read(chip, FIFO_LENGTH);
-    print!(rt; "      {ready}     {tx}          {held}")?;
+    print!(rt; "      {ready}")?;
+    print!(rt; "     {tx}")?;
+    print!(rt; "          {held}")?;
     show_eeprom(rt, chip)?;
-    println!(rt; " {clock}")
+    print!(rt; " {clock}")?;
+    println!(rt; "")
 }
 
 // A programming of 78,648 clocks: a line one clock before its end, and a line at its end.

@@ -39,7 +39,7 @@ returns c whole =
     let registers : List ℕ → List ℕ = over_registers 0 (replicate 32 0) in
     let loaded : c.load_registers.new.chip ≡ fresh (number_of edition) (registers (bytes_from image 0x10 32)) image =
     c.load_registers.ensures
-    ∙ ap (λ (l : List ℕ). fresh c.from.result (registers (wrapped_from l 0x10 32)) l) c.copy_from_slice.ensures.after
+    ∙ ap (λ (l : List ℕ). fresh c.from.result (registers (wrapped_from l 0x10 32)) l) (c.store_image.ensures whole.sizes.eeprom_count)
     ∙ ap (λ (l : List ℕ). fresh c.from.result (registers l) image) (unwrapped image 0x10 32 size (omega arith))
     ∙ ap (λ (number : ℕ). fresh number (registers (bytes_from image 0x10 32)) image) c.from.ensures in
     subst (λ (next : Chip). Meets old (start image) next 0 [] × Whole next) (sym loaded)

@@ -6,7 +6,7 @@ use native.Mathlib.Omega.{arith}
 use mathlib.Core.Path.{◌≡◌, refl, sym, ap, ◌∙◌}
 use mathlib.Core.Bool.{Bool, true, false, cond, ◌||◌}
 use mathlib.Core.List.{List, [], ◌∷◌, ◌++◌}
-use lib.Dec.{eqb, leb}
+use lib.Dec.{eqb, leb, ltb}
 use lib.ListN.{length, get_or, take, drop, length-drop}
 use lib.Seq.{take-suc, get_or-drop}
 use borrow.Author.Tests.{eqb-true, leb-true}
@@ -14,6 +14,7 @@ use Rattle.machine.specs.State.{Machine, ReadE2}
 use Rattle.machine.specs.Fifo.{offered, offered_all, lost_at, lost_of}
 use Rattle.machine.specs.Memory.{address_of, bytes_from}
 use Rattle.machine.specs.Commands.{with_access_err, ended, argument, taken, readable, read_from, stepped_as, lost_as}
+use Rattle.machine.proofs.Cases.{either}
 use Rattle.state_fifo.proofs.OfferLaws.{offered_behind, lost_behind}
 use Rattle.command_arguments.proofs.ArgumentLaws.{all_held}
 use Rattle.command_read_e2.specs.Reading.{lost_reading}
@@ -24,6 +25,16 @@ bytes_next eeprom a i inside =
     ap (λ (n : ℕ). take n (drop a eeprom)) (add-one i)
     ∙ take-suc (drop a eeprom) i 0 (simp length-drop (omega arith))
     ∙ ap (λ (b : ℕ). bytes_from eeprom a i ++ b ∷ []) (get_or-drop a eeprom i 0)
+
+-- An offer leaves the EEPROM as it is.
+offer_keeps : (b : ℕ) (m : Machine) → (offered b m).eeprom ≡ m.eeprom
+unfolding offered
+offer_keeps b m = either (λ (x : Machine). x.eeprom ≡ m.eeprom) (ltb (length m.held) 64) _ _ refl refl
+
+pub offers_keep : (bs : List ℕ) (m : Machine) → (offered_all bs m).eeprom ≡ m.eeprom
+unfolding offered_all
+offers_keep [] m = refl
+offers_keep (b ∷ bs) m = offers_keep bs (offered b m) ∙ offer_keeps b m
 
 pub offer_next : (eeprom : List ℕ) (a i : ℕ) → a + i < length eeprom → (m : Machine) →
     offered (get_or eeprom (a + i) 0) (offered_all (bytes_from eeprom a i) m) ≡ offered_all (bytes_from eeprom a (i + 1)) m
